@@ -3,7 +3,7 @@ ghost use lib.ListN.{length, getD, take, drop};
 ghost use mathlib.Core.Path.{_≡_};
 ghost use Prim.Native.Nat.{_+_, _*_, _<_, _≤_};
 ghost use Rattle.plan.specs.Numbers.{bad-size, most, refused, routes-from, Stands, too-large};
-ghost use Rattle.plan.specs.Plan.{among, last-of, marks, met, needed, no-route, route, sameb};
+ghost use Rattle.plan.specs.Plan.{among, last-of, marks, met, needed, no-route, pick, route, sameb};
 ghost use Rattle.plan.specs.View.{end-of, no-need, plan-of, route-of};
 ghost use Rattle.std.specs.declared.option.Option.the-variants.{None};
 use crate::End;
@@ -80,6 +80,28 @@ fn too_large(numbers: &[u16], first_route: usize) -> Option<usize>
     None
 }
 
+// Where the four numbers of a section's end stand.
+fn end_place(up: bool, x: u16) -> usize
+    ensures { λ r. ⌜ r ≡ pick up (4 + 11 * x) (8 + 11 * x) ⌝ }
+{
+    if up {
+        4 + 11 * usize::from(x)
+    } else {
+        8 + 11 * usize::from(x)
+    }
+}
+
+// Where the mark of a section's signal stands.
+fn signal_place(up: bool, x: u16) -> usize
+    ensures { λ r. ⌜ r ≡ pick up (12 + 11 * x) (13 + 11 * x) ⌝ }
+{
+    if up {
+        12 + 11 * usize::from(x)
+    } else {
+        13 + 11 * usize::from(x)
+    }
+}
+
 impl<'a> Plan<'a> {
     // The plan that numbers are.
     pub fn new(numbers: &'a [u16]) -> Self
@@ -127,7 +149,7 @@ impl<'a> Plan<'a> {
     pub fn end(self, up: bool, x: u16) -> End
         ensures { λ r. ⌜ end-of r ≡ plan-of (self .entry) .end up x ⌝ }
     {
-        let k = if up { 4 } else { 8 } + 11 * usize::from(x);
+        let k = end_place(up, x);
         End {
             moves: self.number(k) == 1,
             point: self.number(k + 1),
@@ -139,8 +161,7 @@ impl<'a> Plan<'a> {
     pub fn signal(self, up: bool, x: u16) -> bool
         ensures { λ r. ⌜ r ≡ plan-of (self .entry) .signal up x ⌝ }
     {
-        let k = if up { 12 } else { 13 } + 11 * usize::from(x);
-        self.number(k) == 1
+        self.number(signal_place(up, x)) == 1
     }
 
     pub fn edge(self, x: u16) -> bool

@@ -1,0 +1,1 @@
+// What the interlocking notes of occupied sections.
