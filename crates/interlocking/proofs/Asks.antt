@@ -6,20 +6,26 @@ use mathlib.Core.Logic.{_≢_}
 use Prim.Native.Nat.{ℕ, zero, suc, _+_, _-_, _≤_, _<_}
 use native.Mathlib.Omega.{arith}
 use native.Mathlib.Numerals.{add-one}
-use borrow.Author.Tests.{eqb-true, eqb-false, eq-eqb, ne-eqb}
+use borrow.Author.Tests.{eqb-true, eqb-false}
 use lib.Dec.{eqb}
 use lib.ListN.{length, getD, set, drop}
-use Rattle.std.proofs.shelf.Lists.{getD-set-same, getD-set-other, length-set, drop-more, drop-all, at-drop-more}
+use Rattle.std.proofs.shelf.Lists.{getD-set-same, getD-set-other, length-set, drop-more, drop-all}
 use Rattle.plan.specs.declared.Need.{Need}
-use Rattle.plan.specs.Plan.{pick, Plan, Route, route, needed, among, last-of, no-need}
-use Rattle.interlocking.specs.State.{State, is-idle, held, with-wants, with-stage, restaged, behind-free, done, after-free}
-use Rattle.interlocking.specs.Says.{state-of, marks, Alike, lock-all, lock-path, want-all, with-wanted}
+use Rattle.plan.specs.Plan.{pick, Plan, Route, route, needed, among, last-of, marks}
+use Rattle.plan.specs.View.{no-need}
+use Rattle.plan.specs.Numbers.{plan-in, refused, routes-from}
+use Rattle.plan.proofs.Formed.{formed}
+use Rattle.plan.proofs.Parts.{length-routes}
+use Rattle.std.specs.Options.{isSome}
+use Rattle.interlocking.specs.State.{State, is-idle, held, with-wants, restaged, done, after-free, fitted}
+use Rattle.interlocking.specs.Says.{state-of, lock-all, lock-path, want-all, with-wanted}
 use Rattle.interlocking.specs.declared.Interlocking.{Interlocking}
 use Rattle.interlocking.specs.declared.Stage.{Stage}
 use Rattle.interlocking.specs.declared.Stage.the-variants.{Idle, Set}
 use Rattle.interlocking.specs.declared.Request.the-variants.{Ask, Free}
 use Rattle.interlocking.proofs.Sweeps.{written}
 use Rattle.interlocking.proofs.States.{same-state}
+use Rattle.interlocking.proofs.Fits.{Alike, alike-fits}
 
 pub held-none : (p : Plan) (h : State) (q : ℕ) → held p h q 0 ≡ false
 unfolding held
@@ -34,11 +40,11 @@ or-right : (a b : Bool) → true ≡ b → true ≡ (a || b)
 or-right true b e = refl
 or-right false b e = e
 
-pub held-hit : (p : Plan) (h : State) (q r n : ℕ) (b : Bool) → r < n → b ≡ (not (is-idle (h .stage r)) && needed q (route p r .needs)) → b ≡ true →
+held-at : (p : Plan) (h : State) (q r n : ℕ) (b : Bool) → r < n → b ≡ (not (is-idle (h .stage r)) && needed q (route p r .needs)) → b ≡ true →
     true ≡ held p h q n
 unfolding held
-held-hit p h q r zero b l f g = absurd (omega arith)
-held-hit p h q r (suc n) b l f g = go (eqb r n) refl (λ m. held-hit p h q r n b m f g)
+held-at p h q r zero b l f g = absurd (omega arith)
+held-at p h q r (suc n) b l f g = go (eqb r n) refl (λ m. held-at p h q r n b m f g)
   where
     go : (d : Bool) → eqb r n ≡ d → (r < n → true ≡ held p h q n) → true ≡ held p h q (suc n)
     go true e ih = let z = eqb-true r n e in cc
@@ -47,7 +53,12 @@ held-hit p h q r (suc n) b l f g = go (eqb r n) refl (λ m. held-hit p h q r n b
         let m : r < n = omega arith in
         let i = ih m in or-right (not (is-idle (h .stage n)) && needed q (route p n .needs)) (held p h q n) i
 
+pub held-hit : (p : Plan) (h : State) (q r n m : ℕ) (b : Bool) → r < n → n ≡ m → b ≡ (not (is-idle (h .stage r)) && needed q (route p r .needs)) → b ≡ true →
+    true ≡ held p h q m
+held-hit p h q r n m b l e f g = held-at p h q r m b (omega arith) f g
+
 pub locked-at : (v : ℕ) (xs ls : List ℕ) (x : ℕ) → x < length ls → getD (lock-all v xs ls) x 0 ≡ pick (among x xs) v (getD ls x 0)
+unfolding among
 locked-at v [] ls x l = refl
 locked-at v (y ∷ ys) ls x l = go (eqb x y) refl (locked-at v ys (set ls y v) x (simp length-set l))
   where
@@ -70,6 +81,7 @@ length-want [] w = refl
 length-want (n ∷ ns) w = length-set (want-all ns w) (n .point) (n .left) ∙ length-want ns w
 
 pub wanted-at : (ns : List Need) (w : List Bool) (q : ℕ) → q < length w → getD (want-all ns w) q false ≡ with-wants ns (marks w) q
+unfolding with-wants
 wanted-at [] w q l = refl
 wanted-at (n ∷ ns) w q l = go (eqb q (n .point)) refl (wanted-at ns w q l)
   where
@@ -83,7 +95,7 @@ wanted-at (n ∷ ns) w q l = go (eqb q (n .point)) refl (wanted-at ns w q l)
         let z : q ≢ n .point = eqb-false q (n .point) e in
         let a = getD-set-other (want-all ns w) (n .point) q (n .left) false z in cc
 
-pub granted-alike : (p : Plan) (h l w g : Interlocking) (r : ℕ) (k : Route) (path : List ℕ) → length (h .locks) ≡ 64 → length (h .wanted) ≡ 32 →
+granted-alike : (p : Plan) (h l w g : Interlocking) (r : ℕ) (k : Route) (path : List ℕ) → length (h .locks) ≡ 64 → length (h .wanted) ≡ 32 →
     k ≡ route p r → path ≡ k .path → l ≡ lock-path (r + 1) path h → w ≡ with-wanted l (want-all (k .needs) (l .wanted)) →
     state-of g ≡ restaged (state-of w) r Set → Alike (state-of g) (done p (state-of h) (Ask r))
 unfolding done
@@ -109,6 +121,13 @@ granted-alike p h l w g r k path nl nw ek ep el ew eg = record {
       e ∙ f ∙ a ∙ j;
 }
 
+pub granted-is : (p : Plan) (h l w g : Interlocking) (r v : ℕ) (k : Route) (path : List ℕ) → length (h .locks) ≡ 64 → length (h .wanted) ≡ 32 →
+    length (g .locks) ≡ 64 → length (g .passed) ≡ 64 → length (g .stages) ≡ 64 → length (g .wanted) ≡ 32 →
+    k ≡ route p r → path ≡ k .path → v ≡ r + 1 → l ≡ lock-path v path h → w ≡ with-wanted l (want-all (k .needs) (l .wanted)) →
+    state-of g ≡ restaged (state-of w) r Set → state-of g ≡ fitted (done p (state-of h) (Ask r))
+granted-is p h l w g r v k path nl nw a b c d ek ep ev el ew eg =
+    alike-fits g _ a b c d (granted-alike p h l w g r k path nl nw ek ep (el ∙ ap (λ (z : ℕ). lock-path z path h) ev) ew eg)
+
 pub want-none : (e : Interlocking) (ns : List Need) (n : ℕ) → n ≡ length ns → e ≡ with-wanted e (want-all (drop n ns) (e .wanted))
 want-none e ns n l =
     let m : length ns ≤ n = omega arith in
@@ -123,57 +142,22 @@ want-more e s g ns i n a b es en eg =
     let d : drop (i - 1) ns ≡ n ∷ drop i ns = drop-more ns (i - 1) no-need l ∙ ap (λ k. getD ns (i - 1) no-need ∷ drop k ns) z ∙ ap (λ (k : Need). k ∷ drop i ns) (sym en) in
     eg ∙ ap (λ (k : Interlocking). with-wanted k (set (k .wanted) (n .point) (n .left))) es ∙ ap (λ (k : List Need). with-wanted e (want-all k (e .wanted))) (sym d)
 
--- the sections before one in a path, gone through
-pub behind-here : (h : State) (lock x : ℕ) (path : List ℕ) (i : ℕ) (t : Bool) → i < length path → behind-free h lock x (drop i path) ≡ t → getD path i 0 ≡ x → true ≡ t
-behind-here h lock x path i t l e f =
-    let u = at-drop-more (behind-free h lock x) path i 0 l in
-    let g = eq-eqb (getD path i 0) x f in cc
-
-pub behind-stop : (h : State) (lock x : ℕ) (path : List ℕ) (i v : ℕ) (t : Bool) → i < length path → behind-free h lock x (drop i path) ≡ t → (getD path i 0 ≡ x → ⊥) →
-    v ≡ h .lock (getD path i 0) → v ≡ lock → false ≡ t
-behind-stop h lock x path i v t l e f a b =
-    let u = at-drop-more (behind-free h lock x) path i 0 l in
-    let g = ne-eqb (getD path i 0) x f in
-    let z : h .lock (getD path i 0) ≡ lock = sym a ∙ b in
-    let k = eq-eqb (h .lock (getD path i 0)) lock z in cc
-
-pub behind-more : (h : State) (lock x : ℕ) (path : List ℕ) (i v : ℕ) (t : Bool) → i < length path → behind-free h lock x (drop i path) ≡ t → (getD path i 0 ≡ x → ⊥) →
-    v ≡ h .lock (getD path i 0) → (v ≡ lock → ⊥) → behind-free h lock x (drop (i + 1) path) ≡ t
-behind-more h lock x path i v t l e f a b =
-    let u = at-drop-more (behind-free h lock x) path i 0 l in
-    let g = ne-eqb (getD path i 0) x f in
-    let k = ne-eqb (h .lock (getD path i 0)) lock (λ z. b (a ∙ z)) in cc
-
--- a section freed, the last of its path and another
-pub freed-last : (p : Plan) (h : Interlocking) (x r : ℕ) (k : Route) → x < length (h .locks) → x < length (h .passed) → r < length (h .stages) → r ≡ getD (h .locks) x 0 - 1 →
-    k ≡ route p r → x ≡ last-of 0 (k .path) →
-    state-of (record { locks = set (h .locks) x 0; passed = set (h .passed) x false; stages = set (h .stages) r Idle; wanted = h .wanted }) ≡ done p (state-of h) (Free x)
+-- a section freed
+pub freed-is : (p : Plan) (h : Interlocking) (x r : ℕ) (k : Route) (o : Bool) (g : Stage) → x < length (h .locks) → x < length (h .passed) → r < length (h .stages) →
+    r ≡ getD (h .locks) x 0 - 1 → k ≡ route p r → o ≡ eqb x (last-of 0 (k .path)) → g ≡ pick o Idle (getD (h .stages) r Idle) →
+    state-of (record { locks = set (h .locks) x 0; passed = set (h .passed) x false; stages = set (h .stages) r g; wanted = h .wanted }) ≡ done p (state-of h) (Free x)
 unfolding done after-free
-freed-last p h x r k a b c er ek e =
-    let z : x ≡ last-of 0 (route p (getD (h .locks) x 0 - 1) .path) = cc in
-    let t = eq-eqb x (last-of 0 (route p (getD (h .locks) x 0 - 1) .path)) z in
-    same-state _ _ (λ y. written (h .locks) x 0 y 0 a) (λ y. written (h .passed) x false y false b) (λ y. let s = written (h .stages) r Idle y Idle c in cc) (λ y. refl)
-
-pub freed-other : (p : Plan) (h : Interlocking) (x r : ℕ) (k : Route) → x < length (h .locks) → x < length (h .passed) → r ≡ getD (h .locks) x 0 - 1 →
-    k ≡ route p r → (x ≡ last-of 0 (k .path) → ⊥) →
-    state-of (record { locks = set (h .locks) x 0; passed = set (h .passed) x false; stages = h .stages; wanted = h .wanted }) ≡ done p (state-of h) (Free x)
-unfolding done after-free
-freed-other p h x r k a b er ek e =
-    let kk : k .path ≡ route p (getD (h .locks) x 0 - 1) .path = cc in
-    let z : x ≡ last-of 0 (route p (getD (h .locks) x 0 - 1) .path) → ⊥ = λ v. e (v ∙ sym (ap (last-of 0) kk)) in
-    let t = ne-eqb x (last-of 0 (route p (getD (h .locks) x 0 - 1) .path)) z in
-    same-state _ _ (λ y. written (h .locks) x 0 y 0 a) (λ y. written (h .passed) x false y false b)
-    (λ y. let s = unwritten y (getD (h .locks) x 0 - 1) in cc) (λ y. refl)
-  where
-    unwritten : (y q : ℕ) → getD (h .stages) y Idle ≡ pick (eqb y q) (getD (h .stages) q Idle) (getD (h .stages) y Idle)
-    unwritten y q = go (eqb y q) refl
-      where
-        go : (d : Bool) → eqb y q ≡ d → getD (h .stages) y Idle ≡ pick (eqb y q) (getD (h .stages) q Idle) (getD (h .stages) y Idle)
-        go true f = let w = eqb-true y q f in cc
-        go false f = cc
+freed-is p h x r k o g a b c er ek eo eg = same-state _ _
+    (λ y. written (h .locks) x 0 y 0 a) (λ y. written (h .passed) x false y false b)
+    (λ y. let s = written (h .stages) r g y Idle c in cc) (λ y. refl)
 
 -- a lock stands at a section that there can be
 pub within-locked : (ls : List ℕ) (x : ℕ) → 0 < getD ls x 0 → x < length ls
 within-locked [] x h = absurd (omega arith)
 within-locked (y ∷ ys) zero h = omega arith
 within-locked (y ∷ ys) (suc x) h = let r = within-locked ys x h in omega arith
+
+-- a plan has 64 routes at most
+pub few-routes : (xs : List ℕ) → isSome (refused xs) ≡ false → length (plan-in xs .routes) ≤ 64
+unfolding plan-in
+few-routes xs h = let n = length-routes xs (routes-from xs) (getD xs 3 0) in let f = formed xs h .routes in omega arith

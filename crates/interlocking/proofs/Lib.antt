@@ -1,8 +1,7 @@
 pub mod Sweeps
+pub mod States
+pub mod Fits
 pub mod Said
 pub mod Does
-pub mod States
+pub mod Walked
 pub mod Asks
-pub mod Fills
-pub mod Stores
-pub mod Entries

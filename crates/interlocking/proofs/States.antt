@@ -1,15 +1,12 @@
 -- What the arrays stand for after a write.
 use mathlib.Core.Path.{_≡_, refl, sym, _∙_, ap, fun-ext}
-use mathlib.Core.Bool.{Bool, true, false, _&&_, not}
+use mathlib.Core.Bool.{Bool, false}
 use mathlib.Core.List.{List}
-use Prim.Native.Nat.{ℕ, zero, suc, _+_, _≤_, _<_}
-use native.Mathlib.Omega.{arith}
+use Prim.Native.Nat.{ℕ, _+_, _<_}
 use native.Mathlib.Numerals.{add-one}
-use lib.Dec.{eqb}
 use lib.ListN.{length, getD, set}
-use Rattle.plan.specs.Plan.{pick, Plan}
-use Rattle.interlocking.specs.State.{State, with-stage, unlocked, let-go, forget, restaged, fallen, all-fall, Occupancy, entering, notes}
-use Rattle.interlocking.specs.Says.{state-of, Swept, released, forgotten, noted, marks}
+use Rattle.interlocking.specs.State.{State, let-go, forget, restaged, fallen, all-fall}
+use Rattle.interlocking.specs.Says.{state-of, Swept, released, forgotten}
 use Rattle.interlocking.specs.declared.Interlocking.{Interlocking}
 use Rattle.interlocking.specs.declared.Stage.{Stage}
 use Rattle.interlocking.specs.declared.Stage.the-variants.{Idle}
@@ -46,9 +43,3 @@ fall-more h g s r e f =
     let a = add-one r in
     let k : getD (s .stages) r Idle ≡ all-fall r (state-of h) .stage r = ap (λ (z : State). z .stage r) e in
     f ∙ ap (λ (z : State). fallen z r (z .stage r)) e ∙ ap (λ n. all-fall n (state-of h)) (sym a)
-
-pub noted-state : (p : Plan) (h : Interlocking) (seen ps : List Bool) (gs : List Stage) → Swept (noted (h .locks) seen) false (h .passed) ps →
-    Swept (entering p (marks seen)) Idle (h .stages) gs →
-    state-of (record { locks = h .locks; passed = ps; stages = gs; wanted = h .wanted }) ≡ notes p (state-of h) (marks seen)
-unfolding notes
-noted-state p h seen ps gs a b = same-state _ _ (λ x. refl) a b (λ x. refl)

@@ -1,75 +1,74 @@
-// The entries: what is lent as numbers is looked at, read, acted on and written back.
+// The entry: what is lent as numbers is looked at, read, acted on and written back.
 ghost use mathlib.Core.Path.{_≡_};
-ghost use mathlib.Core.Bool.{true};
-ghost use lib.Dec.{eqb};
+ghost use mathlib.Core.Bool.{Bool};
 ghost use lib.ListN.{length, getD};
 ghost use Rattle.plan.specs.Numbers.{plan-in};
+ghost use Rattle.plan.specs.Shape.{all-at-most};
+ghost use Rattle.plan.specs.View.{plan-of};
 ghost use Rattle.interlocking.specs.Says.{request-of};
-ghost use Rattle.interlocking.specs.State.{notes};
-ghost use Rattle.interlocking.specs.Memory.{state-in};
-ghost use Rattle.interlocking.specs.Entry.{marked, shape-refusal, request-refusal, lent-refusal, refusal, Lent, Stored, Performs, Act-says, Note-says};
-use super::Answer;
-use super::Interlocking;
-use super::memory;
-use plan::Refusal;
+ghost use Rattle.memory.specs.Entry.{marked, bad-lent, bad-asked, lent-refusal, refusal, Performs, Act-says};
+use crate::Asked;
+use crate::Lent;
+use crate::Refusal;
+use interlocking::Answer;
+use plan::view::Plan;
 
-fn shape_refusal(memory: &[u16], seen: &[u8], lies: bool, routes: u16) -> Option<Refusal>
-    ensures { λ r. ⌜ r ≡ shape-refusal (now (memory .entry)) (now (seen .entry)) lies routes ⌝ }
+// Are no numbers above this one?
+fn all_at_most(numbers: &[u16], most: u16) -> bool
+    ensures { λ r. ⌜ r ≡ all-at-most most (now (numbers .entry)) ⌝ }
+{
+    for x in numbers {
+        if *x > most {
+            return false;
+        }
+    }
+    true
+}
+
+// `positions` says whether those, where they are lent, have their length.
+fn bad_lent(memory: &[u16], seen: &[u8], positions: bool, routes: u16) -> Option<Lent>
+    ensures { λ r. ⌜ r ≡ bad-lent (now (memory .entry)) (now (seen .entry)) positions routes ⌝ }
 {
     if memory.len() != 224 {
-        Some(Refusal {
-            number: 4,
-            place: 0,
-        })
+        Some(Lent::Memory)
     } else if seen.len() != 64 {
-        Some(Refusal {
-            number: 4,
-            place: 1,
-        })
-    } else if !lies {
-        Some(Refusal {
-            number: 4,
-            place: 2,
-        })
-    } else if !plan::at_most(&memory[0..64], routes) {
-        Some(Refusal {
-            number: 4,
-            place: 3,
-        })
+        Some(Lent::Occupied)
+    } else if !positions {
+        Some(Lent::Positions)
+    } else if !all_at_most(&memory[0..64], routes) {
+        Some(Lent::Lock)
     } else {
         None
     }
 }
 
-fn request_refusal(kind: u64, which: u64) -> Option<Refusal>
-    ensures { λ r. ⌜ r ≡ request-refusal kind which ⌝ }
+fn bad_asked(kind: u64, which: u64) -> Option<Asked>
+    ensures { λ r. ⌜ r ≡ bad-asked kind which ⌝ }
 {
     if kind > 4 {
-        Some(Refusal {
-            number: 5,
-            place: 0,
-        })
+        Some(Asked::Kind)
     } else if which > 63 {
-        Some(Refusal {
-            number: 5,
-            place: 1,
-        })
+        Some(Asked::Which)
     } else {
         None
     }
 }
 
-// `lies` says whether how the points lie, where it is lent, has its length.
-fn lent_refusal(plan: &[u16], memory: &[u16], seen: &[u8], lies: bool) -> Option<Refusal>
-    ensures { λ r. ⌜ r ≡ lent-refusal (now (plan .entry)) (now (memory .entry)) (now (seen .entry)) lies ⌝ }
+// Why what is lent is turned away, if it is.
+pub fn lent_refusal(plan: &[u16], memory: &[u16], seen: &[u8], positions: bool) -> Option<Refusal>
+    ensures { λ r. ⌜ r ≡ lent-refusal (now (plan .entry)) (now (memory .entry)) (now (seen .entry)) positions ⌝ }
 {
-    match plan::check(plan) {
-        Some(refusal) => Some(refusal),
-        None => shape_refusal(memory, seen, lies, plan[3]),
+    if let Some(refusal) = plan::read::refusal(plan) {
+        return Some(Refusal::Plan(refusal));
+    }
+    match bad_lent(memory, seen, positions, plan[3]) {
+        Some(lent) => Some(Refusal::Lent(lent)),
+        None => None,
     }
 }
 
-fn refusal(
+// Why a request on numbers is turned away, if it is.
+pub fn refusal(
     plan: &[u16],
     memory: &[u16],
     seen: &[u8],
@@ -79,29 +78,33 @@ fn refusal(
 ) -> Option<Refusal>
     ensures { λ r. ⌜ r ≡ refusal (now (plan .entry)) (now (memory .entry)) (now (seen .entry)) (now (turned .entry)) kind which ⌝ }
 {
-    match lent_refusal(plan, memory, seen, turned.len() == 32) {
-        Some(refusal) => Some(refusal),
-        None => request_refusal(kind, which),
+    if let Some(refusal) = lent_refusal(plan, memory, seen, turned.len() == 32) {
+        return Some(refusal);
+    }
+    match bad_asked(kind, which) {
+        Some(asked) => Some(Refusal::Asked(asked)),
+        None => None,
     }
 }
 
 fn perform(
-    plan: &[u16],
+    plan: Plan<'_>,
     memory: &mut [u16],
     seen: &[u8],
     turned: &[u8],
     kind: u64,
     which: usize,
 ) -> Answer
-    requires lent { ⌜ Lent (now plan) (now memory) (now seen) ⌝ }
-    requires points { ⌜ length (now turned) ≡ 32 ⌝ }
-    ensures { λ a. ⌜ Performs (plan-in (now (plan .entry))) (marked (now (seen .entry))) (marked (now (turned .entry))) (request-of kind which) (now (memory .entry)) a (now (memory .exit)) ⌝ }
+    requires memory { ⌜ length (now memory) ≡ 224 ⌝ }
+    requires occupancy { ⌜ length (now seen) ≡ 64 ⌝ }
+    requires positions { ⌜ length (now turned) ≡ 32 ⌝ }
+    ensures { λ a. ⌜ Performs (plan-of (plan .entry)) (marked (now (seen .entry))) (marked (now (turned .entry))) (request-of kind which) (now (memory .entry)) a (now (memory .exit)) ⌝ }
 {
-    let seen = memory::marks_from::<64>(seen);
-    let turned = memory::marks_from::<32>(turned);
-    let (left, answer) = Interlocking::from_memory(memory).act(plan, &seen, &turned, kind, which);
+    let occupied = crate::marks_in::<64>(seen);
+    let lies = crate::marks_in::<32>(turned);
+    let (left, answer) = crate::read(memory).act(plan, &occupied, &lies, kind, which);
     if answer.done {
-        left.store(memory);
+        crate::store(&left, memory);
     }
     answer
 }
@@ -119,28 +122,6 @@ pub fn act(
 {
     match refusal(plan, memory, seen, turned, kind, which) {
         Some(refusal) => Err(refusal),
-        None => Ok(perform(plan, memory, seen, turned, kind, which as usize)),
-    }
-}
-
-fn noted(plan: &[u16], memory: &mut [u16], seen: &[u8])
-    requires { ⌜ Lent (now plan) (now memory) (now seen) ⌝ }
-    ensures { λ _. ⌜ Stored (notes (plan-in (now (plan .entry))) (state-in (now (memory .entry))) (marked (now (seen .entry)))) (now (memory .entry)) (now (memory .exit)) ⌝ }
-{
-    let seen = memory::marks_from::<64>(seen);
-    let left = Interlocking::from_memory(memory).note(plan, &seen);
-    left.store(memory);
-}
-
-// What is seen is noted.
-pub fn note(plan: &[u16], memory: &mut [u16], seen: &[u8]) -> Option<Refusal>
-    ensures { λ r. ⌜ Note-says (lent-refusal (now (plan .entry)) (now (memory .entry)) (now (seen .entry)) true) (plan-in (now (plan .entry))) (marked (now (seen .entry))) (now (memory .entry)) r (now (memory .exit)) ⌝ }
-{
-    match lent_refusal(plan, memory, seen, true) {
-        Some(refusal) => Some(refusal),
-        None => {
-            noted(plan, memory, seen);
-            None
-        }
+        None => Ok(perform(Plan::new(plan), memory, seen, turned, kind, which as usize)),
     }
 }

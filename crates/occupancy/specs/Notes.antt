@@ -30,6 +30,10 @@ notes p h s = record {
   wanted = h .wanted;
 }
 
+-- a section that is locked and occupied is passed, and stays so
+abbrev pub noted-mark : Bool → ℕ → Bool → Bool
+noted-mark b lock occupied = b || (not (eqb lock 0) && occupied)
+
 -- the mark of a section, in arrays, after what is reported is noted
 abbrev pub noted : List ℕ → List Bool → ℕ → Bool → Bool
-noted locks seen x b = b || (not (eqb (getD locks x 0) 0) && getD seen x false)
+noted locks occupied x b = noted-mark b (getD locks x 0) (getD occupied x false)

@@ -17,7 +17,7 @@ use Rattle.safety.proofs.Tests.{clash, either-way, fails}
 use Rattle.safety.proofs.Needs.{Loose, met-agree, with-wants-met, wanted-still, held-none}
 use Rattle.safety.proofs.Carry.{route-moves, run-moves}
 
--- a house in which a route is set: these sections are locked for it, and points are wanted as these needs say
+-- a state in which a route is set: these sections are locked for it, and points are wanted as these needs say
 abbrev pub asks : State → ℕ → List ℕ → List Need → State
 asks h r xs ns = record { lock = locked h r xs; passed = h .passed; stage = with-stage (h .stage) r Set; wanted = with-wants ns (h .wanted) }
 
@@ -27,7 +27,7 @@ unfolding among all-free
 all-free-at h o [] x a b = grind arith
 all-free-at h o (y ∷ ys) x a b = let ih = all-free-at h o ys x in grind (arith, ih)
 
--- what it takes: an idle route of the plan, the sections not locked and told vacant, the needs to be had
+-- what it takes: an idle route of the plan, the sections not locked and not reported occupied, the needs to be had
 pub record Asked (p : Plan) (h : State) (o : Occupancy) (r : ℕ) (xs : List ℕ) (ns : List Need) : Type 0 where
   pub there : r < length (p .routes)
   pub rests : is-idle (h .stage r) ≡ true
@@ -47,7 +47,6 @@ module _ (p : Plan) (h : State) (s o : Occupancy) (t u : Positions) (r : ℕ) (x
   same-wanted q f = wanted-still p h o ns u q (a .had) can f
 
   ask-wants : (r′ : ℕ) → r′ < length (p .routes) → is-idle (with-stage (h .stage) r Set r′) ≡ false → met (with-wants ns (h .wanted)) (route p r′ .needs) ≡ true
-  unfolding with-stage
   ask-wants r′ l b = either-way r′ r
       (λ e. rw e (serves (with-wants ns (h .wanted)) (with-wants-met ns (h .wanted) u can)))
       (λ e. let busy : is-idle (h .stage r′) ≡ false = grind arith in
@@ -58,9 +57,8 @@ module _ (p : Plan) (h : State) (s o : Occupancy) (t u : Positions) (r : ℕ) (x
   really x e = let v = a .vacant x e in (v .0, fails (o x) (s x) (covers x) (v .1))
 
   pub ask-kept : Kept p (asks h r xs ns) s t
-  unfolding locked with-stage is-idle
   ask-kept = record {
-    still = λ q l b. same-wanted q (λ f. clash (o (p .place q)) (covers (p .place q) b) (f .unseen)) ∙ k .still q l b;
+    still = λ q l b. same-wanted q (λ f. clash (o (p .place q)) (covers (p .place q) b) (f .empty-place)) ∙ k .still q l b;
     owner = λ x r′ e. let old = k .owner x r′ in let l = a .there in let same = all x in grind (arith, old, l);
     waits = λ r′ l b x c. let old = k .waits r′ l in let new = really x in let same = all x in grind (arith, old, new);
     wants = ask-wants;
@@ -68,7 +66,6 @@ module _ (p : Plan) (h : State) (s o : Occupancy) (t u : Positions) (r : ℕ) (x
   }
 
 pub ask-run : (p : Plan) (n : ℕ) (h : State) (o : Occupancy) (t : Positions) (ts : ℕ → Train) (r : ℕ) (xs : List ℕ) (ns : List Need) → Asked p h o r xs ns → Run p n h t ts → Run p n (asks h r xs ns) t ts
-unfolding locked with-stage is-idle
 ask-run p n h o t ts r xs ns a run = run-moves p n h (asks h r xs ns) t ts run
     (λ up x r′ k c q. route-moves p h (asks h r xs ns) (occupied n ts) (occupied n ts) t up x r′ k q
     (let e = q .in-use in let i = a .rests in grind arith)
@@ -85,7 +82,6 @@ ask-sure p n h o t u ts r snd covers k ok =
     )
 
 pub ask-books : (p : Plan) (h : State) (o : Occupancy) (r : ℕ) (xs : List ℕ) (ns : List Need) → Asked p h o r xs ns → Books p h o → Books p (asks h r xs ns) o
-unfolding locked with-stage is-idle
 ask-books p h o r xs ns a b = record {
   named = λ r′ e. let old = b .named r′ in let new = a .there in grind (arith, old, new);
   soon = λ r′ m e. b .soon r′ m (grind arith);
@@ -93,7 +89,6 @@ ask-books p h o r xs ns a b = record {
 }
 
 pub ask-unmarked : (p : Plan) (h : State) (o : Occupancy) (r : ℕ) (xs : List ℕ) (ns : List Need) → ((x : ℕ) → among x xs ≡ among x (route p r .path)) → Asked p h o r xs ns → Unmarked p h → Unmarked p (asks h r xs ns)
-unfolding locked with-stage
 ask-unmarked p h o r xs ns all a b = record {
   clean = λ x e. b .clean x (grind arith);
   fresh = λ r′ l w x c. let old = b .fresh r′ l in let new = a .vacant x in let clean = b .clean x in let same = all x in grind (arith, old, new, clean);

@@ -9,7 +9,7 @@ use lib.ListN.{length}
 use Rattle.plan.specs.Plan.{Plan, Positions, route, among}
 use Rattle.interlocking.specs.declared.Stage.{Stage}
 use Rattle.interlocking.specs.declared.Stage.the-variants.{Idle, Set, Shown, Used, Falling}
-use Rattle.interlocking.specs.State.{is-idle, is-used, can-fall, State, Occupancy, all-vacant, does, taken-back, done}
+use Rattle.interlocking.specs.State.{is-used, can-fall, State, Occupancy, all-vacant, does, taken-back, done}
 use Rattle.interlocking.specs.declared.Request.the-variants.{Back}
 use Rattle.model.specs.World.{Train, occupied}
 use Rattle.safety.specs.Safe.{is-waiting, is-cleared, Kept, Books, Unmarked, Covers, Sure}
@@ -18,20 +18,19 @@ use Rattle.safety.proofs.Lists.{among-at, among-head, among-tail}
 use Rattle.safety.proofs.Stages.{waiting-unused, staged, let-go}
 use Rattle.safety.proofs.Carry.{stage-kept, stage-run, stage-books, stage-unmarked, let-go-kept, let-go-run, let-go-books, let-go-unmarked}
 
--- sections none of which is seen, read at one of them, and from all of them
-pub none-seen-at : (s : Occupancy) (xs : List ℕ) (x : ℕ) → all-vacant s xs ≡ true → among x xs ≡ true → s x ≡ false
+-- sections all of which are vacant, read at one of them, and from all of them
+pub all-vacant-at : (s : Occupancy) (xs : List ℕ) (x : ℕ) → all-vacant s xs ≡ true → among x xs ≡ true → s x ≡ false
 unfolding among all-vacant
-none-seen-at s [] x a b = grind arith
-none-seen-at s (y ∷ ys) x a b = let ih = none-seen-at s ys x in grind (arith, ih)
+all-vacant-at s [] x a b = grind arith
+all-vacant-at s (y ∷ ys) x a b = let ih = all-vacant-at s ys x in grind (arith, ih)
 
-pub none-seen-all : (s : Occupancy) (xs : List ℕ) → ((x : ℕ) → among x xs ≡ true → s x ≡ false) → all-vacant s xs ≡ true
+pub vacant-all : (s : Occupancy) (xs : List ℕ) → ((x : ℕ) → among x xs ≡ true → s x ≡ false) → all-vacant s xs ≡ true
 unfolding all-vacant
-none-seen-all s [] h = refl
-none-seen-all s (x ∷ xs) h = let a = h x (among-head x xs) in let ih = none-seen-all s xs (λ y a. h y (among-tail y x xs a)) in grind arith
+vacant-all s [] h = refl
+vacant-all s (x ∷ xs) h = let a = h x (among-head x xs) in let ih = vacant-all s xs (λ y a. h y (among-tail y x xs a)) in grind arith
 
 -- a route that may be entered may fall from any time
 pub falls-kept : (p : Plan) (h : State) (s : Occupancy) (t : Positions) (r m : ℕ) → Kept p h s t → is-waiting (h .stage r) ≡ true → is-cleared (h .stage r) ≡ true → Kept p (staged h r (Falling m)) s t
-unfolding is-idle
 falls-kept p h s t r m k w c = stage-kept p h s t r (Falling m) k w refl (λ a b. k .lies r a c)
 
 pub falls : (p : Plan) (n : ℕ) (h : State) (t : Positions) (ts : ℕ → Train) (r m : ℕ) → is-waiting (h .stage r) ≡ true → is-cleared (h .stage r) ≡ true →
@@ -57,13 +56,12 @@ used-goes p n h t ts r f none k = (
 
 -- as it is asked, at each stage
 back-at : (p : Plan) (n : ℕ) (h : State) (o : Occupancy) (t : Positions) (ts : ℕ → Train) (r : ℕ) → Covers o (occupied n ts) → Sure p n h t ts →
-    (g : Stage) → h .stage r ≡ g → (can-fall g || (is-used g && all-vacant o (route p r .path))) ≡ true → Sure p n (taken-back p h r g) t ts
-unfolding taken-back can-fall is-used
+    (g : Stage) → h .stage r ≡ g → (can-fall g || (is-used g && all-vacant o (route p r .path))) ≡ true → Sure p n (taken-back (p .time) h r g) t ts
 back-at p n h o t ts r covers k Idle e a = absurd (grind arith)
 back-at p n h o t ts r covers k Set e a = waiting-goes p n h t ts r (h .passed) (rw e) k
 back-at p n h o t ts r covers k Shown e a = falls p n h t ts r (p .time) (rw e) (rw e) k
 back-at p n h o t ts r covers k Used e a =
-    used-goes p n h t ts r (λ x. not (eqb (h .lock x) (suc r)) && h .passed x) (λ x b. let f = none-seen-at o (route p r .path) x a b in let c = covers x in grind arith) k
+    used-goes p n h t ts r (λ x. not (eqb (h .lock x) (suc r)) && h .passed x) (λ x b. let f = all-vacant-at o (route p r .path) x a b in let c = covers x in grind arith) k
 back-at p n h o t ts r covers k (Falling m) e a = absurd (grind arith)
 
 pub back-sure : (p : Plan) (n : ℕ) (h : State) (o : Occupancy) (t u : Positions) (ts : ℕ → Train) (r : ℕ) → Covers o (occupied n ts) → Sure p n h t ts →
@@ -71,8 +69,7 @@ pub back-sure : (p : Plan) (n : ℕ) (h : State) (o : Occupancy) (t u : Position
 unfolding does done
 back-sure p n h o t u ts r covers k ok = back-at p n h o t ts r covers k (h .stage r) refl (grind arith)
 
-books-at : (p : Plan) (h : State) (o : Occupancy) (r : ℕ) → Books p h o → (g : Stage) → h .stage r ≡ g → Books p (taken-back p h r g) o
-unfolding taken-back
+books-at : (p : Plan) (h : State) (o : Occupancy) (r : ℕ) → Books p h o → (g : Stage) → h .stage r ≡ g → Books p (taken-back (p .time) h r g) o
 books-at p h o r b Idle e = b
 books-at p h o r b Set e = let-go-books p h o r (h .passed) b (λ x f. refl)
 books-at p h o r b Shown e = stage-books p h o r (Falling (p .time)) b (rw e) (λ m q. grind arith)
@@ -83,8 +80,7 @@ pub back-books : (p : Plan) (h : State) (o : Occupancy) (r : ℕ) → Books p h 
 unfolding done
 back-books p h o r b = books-at p h o r b (h .stage r) refl
 
-unmarked-at : (p : Plan) (h : State) (s : Occupancy) (t : Positions) (r : ℕ) → r < length (p .routes) → Kept p h s t → Unmarked p h → (g : Stage) → h .stage r ≡ g → Unmarked p (taken-back p h r g)
-unfolding taken-back
+unmarked-at : (p : Plan) (h : State) (s : Occupancy) (t : Positions) (r : ℕ) → r < length (p .routes) → Kept p h s t → Unmarked p h → (g : Stage) → h .stage r ≡ g → Unmarked p (taken-back (p .time) h r g)
 unmarked-at p h s t r l k b Idle e = b
 unmarked-at p h s t r l k b Set e = waiting-unmarked p h s t r l (rw e) k b
 unmarked-at p h s t r l k b Shown e = stage-unmarked p h r (Falling (p .time)) b (rw e)

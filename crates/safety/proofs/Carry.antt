@@ -1,4 +1,4 @@
--- What lies ahead of trains, and the rest of what is kept, carried from one house to another.
+-- What lies ahead of trains, and the rest of what is kept, carried from one state to another.
 use mathlib.Core.Path.{_≡_, sym, _∙_}
 use mathlib.Core.Bool.{Bool, true, false}
 use mathlib.Core.List.{List}
@@ -9,12 +9,12 @@ use lib.ListN.{length, getD}
 use Rattle.plan.specs.Plan.{Plan, Positions, route, met}
 use Rattle.interlocking.specs.declared.Stage.{Stage}
 use Rattle.interlocking.specs.declared.Stage.the-variants.{Idle, Falling}
-use Rattle.interlocking.specs.State.{is-idle, State, Occupancy, with-stage, unlocked}
+use Rattle.interlocking.specs.State.{is-idle, State, Occupancy}
 use Rattle.model.specs.World.{Train, occupied}
 use Rattle.safety.specs.Safe.{is-waiting, is-cleared, Rest, Mine, On-route, Ahead, at-signal, at-end, on-route, Kept, Run, Books, Unmarked}
 use Rattle.safety.proofs.Tests.{either-way}
 use Rattle.safety.proofs.Lists.{front-among}
-use Rattle.safety.proofs.Occupancy.{occupied-at}
+use Rattle.safety.proofs.Occupied.{occupied-at}
 use Rattle.safety.proofs.Stages.{waiting-unused, stage-else, unlocked-else, staged, let-go}
 
 -- THE REST OF A PATH, where what is the route's own stays so and what is vacant stays so
@@ -47,7 +47,7 @@ ahead-moves p h h′ s s′ t up x f (at-signal e) = at-signal e
 ahead-moves p h h′ s s′ t up x f (at-end e) = at-end e
 ahead-moves p h h′ s s′ t up x f (on-route r k o) = on-route r k (f r k o)
 
--- the trains where they are, and a house that keeps what lies ahead of them
+-- the trains where they are, and a state that keeps what lies ahead of them
 pub run-moves : (p : Plan) (n : ℕ) (h h′ : State) (t : Positions) (ts : ℕ → Train) → Run p n h t ts →
     ((up : Bool) (x r k : ℕ) → occupied n ts x ≡ true → On-route p h (occupied n ts) t up x r k → On-route p h′ (occupied n ts) t up x r k) → Run p n h′ t ts
 run-moves p n h h′ t ts run f = record {
@@ -62,7 +62,6 @@ run-moves p n h h′ t ts run f = record {
 -- A WAITING ROUTE COMES TO ANOTHER STAGE: any but idle, if its points lie as it needs where the stage says so
 pub stage-kept : (p : Plan) (h : State) (s : Occupancy) (t : Positions) (r : ℕ) (g : Stage) → Kept p h s t → is-waiting (h .stage r) ≡ true → is-idle g ≡ false →
     (r < length (p .routes) → is-cleared g ≡ true → met t (route p r .needs) ≡ true) → Kept p (staged h r g) s t
-unfolding is-idle with-stage
 stage-kept p h s t r g k w busy m = record {
   still = k .still;
   owner = λ x r′ a. let old = k .owner x r′ a in (old .0, old .1, grind arith);
@@ -77,7 +76,6 @@ stage-run p n h t ts r g run w = run-moves p n h (staged h r g) t ts run
     (stage-else (h .stage) r g r′ (λ e. waiting-unused (h .stage r′) (rw e w) (o .in-use))) (λ j a b l. l) (λ j a b l v. v))
 
 pub stage-books : (p : Plan) (h : State) (o : Occupancy) (r : ℕ) (g : Stage) → Books p h o → is-waiting (h .stage r) ≡ true → ((m : ℕ) → g ≡ Falling m → m ≤ p .time) → Books p (staged h r g) o
-unfolding with-stage is-idle
 stage-books p h o r g b w less = record {
   named = λ r′ e. b .named r′ (grind arith);
   soon = λ r′ m e. let old = b .soon r′ m in let new = less m in grind (arith, old, new);
@@ -85,12 +83,10 @@ stage-books p h o r g b w less = record {
 }
 
 pub stage-unmarked : (p : Plan) (h : State) (r : ℕ) (g : Stage) → Unmarked p h → is-waiting (h .stage r) ≡ true → Unmarked p (staged h r g)
-unfolding with-stage
 stage-unmarked p h r g b w = record { clean = b .clean; fresh = λ r′ a c. b .fresh r′ a (grind arith) }
 
 -- A ROUTE IS LET GO that no train is on with some of it ahead
 pub let-go-kept : (p : Plan) (h : State) (s : Occupancy) (t : Positions) (r : ℕ) (f : ℕ → Bool) → Kept p h s t → Kept p (let-go h r f) s t
-unfolding is-idle with-stage unlocked
 let-go-kept p h s t r f k = record {
   still = k .still;
   owner = λ x r′ a. let old = k .owner x r′ (grind arith) in (old .0, old .1, grind arith);
@@ -108,7 +104,6 @@ let-go-run p n h t ts r f run off = run-moves p n h (let-go h r f) t ts run
     (λ j a b l. unlocked-else h r (getD (route p r′ .path) j 0) (λ z. e (suc-inj (sym l ∙ z))) ∙ l) (λ j a b l v. v)))
 
 pub let-go-books : (p : Plan) (h : State) (o : Occupancy) (r : ℕ) (f : ℕ → Bool) → Books p h o → ((x : ℕ) → (h .lock x ≡ suc r → ⊥) → f x ≡ h .passed x) → Books p (let-go h r f) o
-unfolding with-stage unlocked is-idle
 let-go-books p h o r f b else = record {
   named = λ r′ e. b .named r′ (grind arith);
   soon = λ r′ m e. b .soon r′ m (grind arith);
@@ -117,7 +112,6 @@ let-go-books p h o r f b else = record {
 
 pub let-go-unmarked : (p : Plan) (h : State) (r : ℕ) (f : ℕ → Bool) → Unmarked p h →
     ((x : ℕ) → h .lock x ≡ suc r → f x ≡ false) → ((x : ℕ) → (h .lock x ≡ suc r → ⊥) → f x ≡ h .passed x) → Unmarked p (let-go h r f)
-unfolding with-stage unlocked
 let-go-unmarked p h r f b own else = record {
   clean = λ x a. let old = b .clean x in grind (arith, old, own, else);
   fresh = λ r′ a c x d. let old = b .fresh r′ a (grind arith) x d in grind (arith, old, own, else);

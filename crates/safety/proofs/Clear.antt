@@ -5,7 +5,7 @@ use Prim.Native.Nat.{ℕ}
 use native.Mathlib.Omega.{arith}
 use Rattle.plan.specs.Plan.{Plan, Positions, route, met}
 use Rattle.interlocking.specs.declared.Stage.the-variants.{Set, Shown}
-use Rattle.interlocking.specs.State.{is-idle, State, Occupancy, does, done}
+use Rattle.interlocking.specs.State.{State, Occupancy, does, done}
 use Rattle.interlocking.specs.declared.Request.the-variants.{Clear}
 use Rattle.model.specs.World.{Train, occupied}
 use Rattle.safety.specs.Safe.{Kept, Books, Unmarked, Sure}
@@ -14,10 +14,9 @@ use Rattle.safety.proofs.Carry.{stage-kept, stage-run, stage-books, stage-unma
 
 -- a set route may be shown if its points really lie as it needs; that they are wanted so is kept already
 pub clear-kept : (p : Plan) (h : State) (s : Occupancy) (t : Positions) (r : ℕ) → Kept p h s t → h .stage r ≡ Set → met t (route p r .needs) ≡ true → Kept p (staged h r Shown) s t
-unfolding is-idle
 clear-kept p h s t r k e m = stage-kept p h s t r Shown k (rw e) refl (λ a b. m)
 
--- u is how the points are told to lie
+-- u is how the points are reported to lie
 pub clear-sure : (p : Plan) (n : ℕ) (h : State) (o : Occupancy) (t u : Positions) (ts : ℕ → Train) (r : ℕ) →
     (met u (route p r .needs) ≡ true → met (h .wanted) (route p r .needs) ≡ true → met t (route p r .needs) ≡ true) → Sure p n h t ts →
     does p h o u (Clear r) ≡ true → Sure p n (done p h (Clear r)) t ts

@@ -8,13 +8,13 @@ use native.Mathlib.Omega.{arith}
 use Rattle.plan.specs.Plan.{Plan, Positions, among, Once, none, more}
 use Rattle.soundness.specs.Sound.{Sound}
 use Rattle.interlocking.specs.State.{State, Occupancy}
-use Rattle.model.specs.World.{Train, World, occupied, with-train, can, state-after, lies-after, trains-after}
+use Rattle.model.specs.World.{next, Train, World, occupied, with-train, can, state-after, lies-after, trains-after}
 use Rattle.model.specs.declared.Event.the-variants.{Comes}
 use Rattle.safety.specs.Promise.{Hangs, in-one}
-use Rattle.safety.specs.Safe.{Ahead, at-signal, Kept, Run, Books, Sure, Safe, next}
+use Rattle.safety.specs.Safe.{Ahead, at-signal, Kept, Run, Books, Sure, Safe}
 use Rattle.safety.proofs.Tests.{fails}
 use Rattle.safety.proofs.Lists.{among-none, among-one}
-use Rattle.safety.proofs.Occupancy.{each-train, occupied-less, unseen-at}
+use Rattle.safety.proofs.Occupied.{each-train, occupied-less, vacant-at}
 use Rattle.safety.proofs.Shorter.{books-less, ahead-less}
 
 -- what it takes: a section with no point in it, a signal that way, not locked and vacant
@@ -40,8 +40,8 @@ comes-who ts i up x j y =
     each-train ts i up (x ∷ []) (λ k v. among y (v .body) ≡ true → ((k ≡ i) × (y ≡ x)) ⊎ (among y (ts k .body) ≡ true))
     (λ a. inl (refl, among-one y x a)) (λ k ne a. inr a) j
 
-comes-seen : (n : ℕ) (ts : ℕ → Train) (i : ℕ) (up : Bool) (x y : ℕ) → (y ≡ x → ⊥) → occupied n (with-train ts i up (x ∷ [])) y ≡ true → occupied n ts y ≡ true
-comes-seen n ts i up x y ne e =
+comes-occupied : (n : ℕ) (ts : ℕ → Train) (i : ℕ) (up : Bool) (x y : ℕ) → (y ≡ x → ⊥) → occupied n (with-train ts i up (x ∷ [])) y ≡ true → occupied n ts y ≡ true
+comes-occupied n ts i up x y ne e =
     occupied-less n ts (with-train ts i up (x ∷ [])) y (λ j l a. elim (comes-who ts i up x j y a) [ inl q ↦ absurd (ne (q .1)) | inr b ↦ b ]) e
 
 module _ (p : Plan) (n : ℕ) (h : State) (t : Positions) (ts : ℕ → Train) (i : ℕ) (up : Bool) (x : ℕ) (c : Entry p h (occupied n ts) up x) where
@@ -50,11 +50,11 @@ module _ (p : Plan) (n : ℕ) (h : State) (t : Positions) (ts : ℕ → Train) (
 
   -- no more of what is locked is occupied
   comes-locked : (y r : ℕ) → h .lock y ≡ suc r → occupied n us y ≡ true → occupied n ts y ≡ true
-  comes-locked y r l e = comes-seen n ts i up x y (λ q. let Free = c .unlocked in grind arith) e
+  comes-locked y r l e = comes-occupied n ts i up x y (λ q. let Free = c .unlocked in grind arith) e
 
   pub comes-kept : Kept p h (occupied n ts) t → Kept p h (occupied n us) t
   comes-kept k = record {
-    still = λ q l e. k .still q l (comes-seen n ts i up x (p .place q) (c .plain q l) e);
+    still = λ q l e. k .still q l (comes-occupied n ts i up x (p .place q) (c .plain q l) e);
     owner = k .owner;
     waits = λ r l v y a. let u = k .waits r l v y a in (u .0, fails (occupied n ts y) (occupied n us y) (comes-locked y r (u .0)) (u .1));
     wants = k .wants;
@@ -63,7 +63,7 @@ module _ (p : Plan) (n : ℕ) (h : State) (t : Positions) (ts : ℕ → Train) (
 
   pub comes-run : Run p n h t ts → Run p n h t us
   comes-run run =
-      let alone : (j y : ℕ) → j < n → y ≡ x → among y (ts j .body) ≡ true → ⊥ = λ j y l q a. unseen-at n ts x j l (c .vacant) (rw q at a) in
+      let alone : (j y : ℕ) → j < n → y ≡ x → among y (ts j .body) ≡ true → ⊥ = λ j y l q a. vacant-at n ts x j l (c .vacant) (rw q at a) in
       record {
         inside = λ j y l a. elim (comes-who ts i up x j y a) [ inl q ↦ omega (arith, q .1, c .inside) | inr b ↦ run .inside j y l b ];
         once = each-train ts i up (x ∷ []) (λ j v. j < n → Once (v .body)) (λ l. more x [] (among-none x) none) (λ j ne l. run .once j l);
@@ -86,7 +86,7 @@ module _ (p : Plan) (n : ℕ) (h : State) (t : Positions) (ts : ℕ → Train) (
   comes-books b = books-less p h (occupied n ts) (occupied n us) comes-locked b
 
 pub comes-keeps : (p : Plan) (n : ℕ) (w : World) (i : ℕ) (up : Bool) (x : ℕ) → Sound p → Safe p n w → can p n w (Comes i up x) ≡ true → Safe p n (next p n w (Comes i up x))
-unfolding next state-after lies-after trains-after
+unfolding state-after lies-after trains-after
 comes-keeps p n w i up x snd safe ok =
     let c = entry p n w i up x snd ok in
     record {

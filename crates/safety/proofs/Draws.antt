@@ -7,14 +7,14 @@ use native.Mathlib.Omega.{arith}
 use Rattle.plan.specs.Plan.{Plan, Positions, Once}
 use Rattle.interlocking.specs.State.{State, Occupancy}
 use Rattle.occupancy.specs.Notes.{notes}
-use Rattle.model.specs.World.{Train, World, occupied, without-last, with-train, can, state-after, lies-after, trains-after}
+use Rattle.model.specs.World.{next, Train, World, occupied, without-last, with-train, can, state-after, lies-after, trains-after}
 use Rattle.model.specs.declared.Event.the-variants.{Draws}
 use Rattle.safety.specs.Promise.{Hangs}
-use Rattle.safety.specs.Safe.{Sure, Safe, next}
+use Rattle.safety.specs.Safe.{Sure, Safe}
 use Rattle.safety.proofs.Lists.{among-without-last, once-without-last, front-without-last}
 use Rattle.safety.proofs.Ways.{hangs-without-last}
 use Rattle.safety.proofs.Notes.{notes-kept, notes-run, notes-books, notes-unmarked}
-use Rattle.safety.proofs.Shorter.{Shorter, kept-less, fewer-seen, shorter-run}
+use Rattle.safety.proofs.Shorter.{Shorter, kept-less, fewer-occupied, shorter-run}
 
 draws-shorter : (p : Plan) (t : Positions) (up : Bool) (a : List ℕ) → Once a → Hangs p t up a → Shorter p t up a (without-last a)
 draws-shorter p t up a o g = record {
@@ -31,7 +31,7 @@ draws-sure p n h o t ts i l k =
     let b : List ℕ = without-last (ts i .body) in
     let us : ℕ → Train = with-train ts i (ts i .up) b in
     let c = draws-shorter p t (ts i .up) (ts i .body) (k .1 .once i l) (k .1 .hangs i l) in (
-      notes-kept p h (occupied n us) o t (kept-less p h (occupied n ts) (occupied n us) t (fewer-seen n ts i b (c .fewer)) (k .0)),
+      notes-kept p h (occupied n us) o t (kept-less p h (occupied n ts) (occupied n us) t (fewer-occupied n ts i b (c .fewer)) (k .0)),
       notes-run p n h o t us (shorter-run p n h t ts i b c (k .1)),
     )
 
@@ -40,7 +40,7 @@ unfolding can
 draws-can p n w i ok = grind arith
 
 pub draws-keeps : (p : Plan) (n : ℕ) (w : World) (i : ℕ) → Safe p n w → can p n w (Draws i) ≡ true → Safe p n (next p n w (Draws i))
-unfolding next state-after lies-after trains-after notes
+unfolding state-after lies-after trains-after notes
 draws-keeps p n w i safe ok =
     let us : ℕ → Train = with-train (w .trains) i (w .trains i .up) (without-last (w .trains i .body)) in
     let v = draws-sure p n (w .interlocking) (occupied n us) (w .lies) (w .trains) i (draws-can p n w i ok) (safe .kept, safe .run) in

@@ -10,7 +10,7 @@ use lib.ListN.{length, getD}
 use Rattle.plan.specs.Plan.{pick, Plan, Positions, route, among, last-of, Once}
 use Rattle.soundness.specs.Sound.{Sound}
 use Rattle.interlocking.specs.declared.Stage.the-variants.{Idle, Used}
-use Rattle.interlocking.specs.State.{is-idle, State, Occupancy, behind-free, does, done, after-free, with-stage}
+use Rattle.interlocking.specs.State.{is-idle, State, Occupancy, behind-free, does, done, after-free}
 use Rattle.interlocking.specs.declared.Request.the-variants.{Free}
 use Rattle.model.specs.World.{Train, occupied}
 use Rattle.safety.specs.Safe.{On-route, Kept, Books, Unmarked, Covers, Sure}
@@ -20,7 +20,7 @@ use Rattle.safety.proofs.Stages.{used-only}
 use Rattle.safety.proofs.Carry.{route-moves, run-moves}
 
 -- what lies before a place of a path, where all behind it is free, is not locked for the route
-behind-at : (h : State) (r z : ℕ) (xs : List ℕ) (k j : ℕ) → Once xs → behind-free h r z xs ≡ true → j < length xs → getD xs j 0 ≡ z → k < j → h .lock (getD xs k 0) ≡ suc r → ⊥
+pub behind-at : (h : State) (r z : ℕ) (xs : List ℕ) (k j : ℕ) → Once xs → behind-free h (suc r) z xs ≡ true → j < length xs → getD xs j 0 ≡ z → k < j → h .lock (getD xs k 0) ≡ suc r → ⊥
 unfolding behind-free
 behind-at h r z [] k j o b l e less m = omega arith
 behind-at h r z (y ∷ ys) k zero o b l e less m = omega arith
@@ -34,17 +34,18 @@ behind-at h r z (y ∷ ys) (suc k) (suc j) o b l e less m =
 pub record Freed (p : Plan) (h : State) (s : Occupancy) (z q : ℕ) : Type 0 where
   pub held : h .lock z ≡ suc q
   pub in-use : h .stage q ≡ Used
-  pub behind : behind-free h q z (route p q .path) ≡ true
+  pub behind : behind-free h (suc q) z (route p q .path) ≡ true
   pub gone : (s z ≡ false) ⊎ (z ≡ last-of 0 (route p q .path))
 
 pub freed : (p : Plan) (h : State) (s o : Occupancy) (u : Positions) (z : ℕ) → Covers o s → does p h o u (Free z) ≡ true → Freed p h s z (h .lock z - 1)
 unfolding does
 freed p h s o u z covers e =
-    record { held = grind arith; in-use = used-only (h .stage (h .lock z - 1)) (grind arith); behind = grind arith; gone = let c = covers z in grind arith }
+    let held : h .lock z ≡ suc (h .lock z - 1) = grind arith in
+    record { held = held; in-use = used-only (h .stage (h .lock z - 1)) (grind arith); behind = rw (← held) (grind arith); gone = let c = covers z in grind arith }
 
 -- the route's stage then: as it was, or idle if the section was the last
 free-stage : (p : Plan) (h : State) (z q r : ℕ) → (after-free p h q z .stage r ≡ h .stage r) ⊎ ((after-free p h q z .stage r ≡ Idle) × (r ≡ q) × (z ≡ last-of 0 (route p q .path)))
-unfolding after-free with-stage
+unfolding after-free
 free-stage p h z q r = grind arith
 
 module _ (p : Plan) (h : State) (s : Occupancy) (t : Positions) (z q : ℕ) (snd : Sound p) (k : Kept p h s t) (f : Freed p h s z q) where
@@ -63,7 +64,7 @@ module _ (p : Plan) (h : State) (s : Occupancy) (t : Positions) (z q : ℕ) (snd
       (λ other. behind-at h q z (route p q .path) (a .0) m once (f .behind) (omega arith) (at-last ∙ sym e) (omega arith) (rw (a .2) l))
 
   pub free-kept : Kept p (after-free p h q z) s t
-  unfolding after-free is-idle
+  unfolding after-free
   free-kept = record {
     still = k .still;
     owner = λ x r e. let old = k .owner x r (grind arith) in let st = free-stage p h z q r in let only = last-only in (old .0, old .1, free-owner x r e old);
@@ -121,7 +122,7 @@ free-sure p n h o t u ts z snd covers k ok =
     )
 
 pub free-books : (p : Plan) (h : State) (o : Occupancy) (z : ℕ) → Books p h o → Books p (done p h (Free z)) o
-unfolding done after-free is-idle
+unfolding done after-free
 free-books p h o z b = record {
   named = λ r e. let st = free-stage p h z (h .lock z - 1) r in let old = b .named r in grind (arith, old);
   soon = λ r m e. let st = free-stage p h z (h .lock z - 1) r in let old = b .soon r m in grind (arith, old);

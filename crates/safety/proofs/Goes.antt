@@ -11,24 +11,28 @@ use borrow.Author.Tests.{eqb-true, eq-eqb}
 use Rattle.plan.specs.Plan.{Plan, Positions, beyond, route, among, last-of, Once, more}
 use Rattle.soundness.specs.Sound.{Sound}
 use Rattle.interlocking.specs.declared.Stage.the-variants.{Used}
-use Rattle.interlocking.specs.State.{is-open, State, Occupancy}
-use Rattle.occupancy.specs.Notes.{entered, notes}
-use Rattle.model.specs.World.{Train, World, occupied, front, empty, open-here, can, with-train, trains-after, lies-after, state-after}
+use Rattle.interlocking.specs.State.{State, Occupancy}
+use Rattle.occupancy.specs.Notes.{entering, notes}
+use Rattle.model.specs.World.{next, Train, World, occupied, front, empty, open-here, can, with-train, trains-after, lies-after, state-after}
 use Rattle.model.specs.declared.Event.the-variants.{Goes}
 use Rattle.safety.specs.Promise.{Hangs, in-more, Open}
-use Rattle.safety.specs.Safe.{is-waiting, Rest, Mine, On-route, Ahead, at-signal, at-end, on-route, Kept, Run, Sure, Safe, next}
+use Rattle.safety.specs.Safe.{is-waiting, Rest, Mine, On-route, Ahead, at-signal, at-end, on-route, Kept, Run, Sure, Safe}
 use Rattle.safety.proofs.Tests.{clash, decide, either-way, same-truth, untrue}
 use Rattle.safety.proofs.Lists.{among-at, front-among, front-of, split-front, once-tail, once-same, last-at}
-use Rattle.safety.proofs.Occupancy.{occupied-some, occupied-at, each-train}
+use Rattle.safety.proofs.Occupied.{occupied-some, occupied-at, each-train}
 use Rattle.safety.proofs.Needs.{met-same}
 use Rattle.safety.proofs.Stages.{cleared-busy}
 use Rattle.safety.proofs.Carry.{rest-moves, route-moves, ahead-moves}
 use Rattle.safety.proofs.Enters.{How, Enter, enters, may-go}
 use Rattle.safety.proofs.Notes.{notes-used, notes-kept, notes-books, notes-unmarked}
 
--- WHAT IS SO AFTER, when b is occupied too (z) and the house notes what it is told (o), b among it
+-- a vacant section that is locked for a route stays vacant, if it is not the one that is entered
+stays-vacant : (h : State) (z s : Occupancy) (b y q r : ℕ) → h .lock b ≡ suc r → z y ≡ (eqb y b || s y) → h .lock y ≡ suc q → s y ≡ false → (q ≡ r → y ≡ b → ⊥) → z y ≡ false
+stays-vacant h z s b y q r own g l f apart = grind arith
+
+-- WHAT IS SO AFTER, when b is occupied too (z) and the interlocking notes what is reported (o), b among it
 module _ (p : Plan) (h : State) (s z o : Occupancy) (t : Positions) (up : Bool) (x b r j : ℕ) (snd : Sound p) (e : Enter p h s t up x b r j)
-    (grown : (y : ℕ) → z y ≡ (eqb y b || s y)) (told : o b ≡ true) where
+    (grown : (y : ℕ) → z y ≡ (eqb y b || s y)) (reported : o b ≡ true) where
   locked-here : h .lock b ≡ suc r
   locked-here = rw (← e .here) (e .rest .own)
 
@@ -42,13 +46,12 @@ module _ (p : Plan) (h : State) (s z o : Occupancy) (t : Positions) (up : Bool) 
       let at = e .here in let g = grown (p .place q) in grind arith
 
   -- a route that still waits is not the one that was entered
-  after-other : (q : ℕ) → is-waiting (entered p o q (h .stage q)) ≡ true → q ≡ r → ⊥
-  unfolding entered is-open
+  after-other : (q : ℕ) → is-waiting (entering p o q (h .stage q)) ≡ true → q ≡ r → ⊥
   after-other q w same = go (e .how)
     where
       go : How p h s t up x r j → ⊥
-      go (inl a) = let may = a .0 .may in let first = a .1 in let at = e .here in grind arith
-      go (inr a) = let busy = a .2 .in-use in grind arith
+      go (inl a) = let there = e .there in let may = a .0 .may in let first = a .1 in let at = e .here in grind arith
+      go (inr a) = let there = e .there in let busy = a .2 .in-use in grind arith
 
   pub after-kept : Kept p h s t → Kept p (notes p h o) z t
   unfolding notes
@@ -65,12 +68,12 @@ module _ (p : Plan) (h : State) (s z o : Occupancy) (t : Positions) (up : Bool) 
 
   -- what lies before the front of the train that went
   after-used : notes p h o .stage r ≡ Used
-  unfolding notes entered is-open
+  unfolding notes
   after-used = go (e .how)
     where
-      go : How p h s t up x r j → entered p o r (h .stage r) ≡ Used
-      go (inl a) = let may = a .0 .may in let first = a .1 in let at = e .here in grind arith
-      go (inr a) = let busy = a .2 .in-use in grind arith
+      go : How p h s t up x r j → entering p o r (h .stage r) ≡ Used
+      go (inl a) = let there = e .there in let may = a .0 .may in let first = a .1 in let at = e .here in grind arith
+      go (inr a) = let there = e .there in let busy = a .2 .in-use in grind arith
 
   after-rest : Rest p (route p r .path) (Mine (notes p h o) r) z t up j
   unfolding notes
@@ -111,10 +114,10 @@ module _ (p : Plan) (h : State) (s z o : Occupancy) (t : Positions) (up : Bool) 
   unfolding notes
   after-others sx v y ne = ahead-moves p h (notes p h o) s z t v y
       (λ q k on. route-moves p h (notes p h o) s z t v y q k on (notes-used p h o q (on .in-use)) (λ m a c l. l)
-      (λ m gt less l f. let own = locked-here in let g = grown (getD (route p q .path) m 0) in
-      let apart : q ≡ r → getD (route p q .path) m 0 ≡ b → ⊥ = λ same at. other-apart sx v y ne k (rw same at on) m gt (rw same at less) (rw (← same) at) in grind arith))
+      (λ m gt less l f. stays-vacant h z s b (getD (route p q .path) m 0) q r locked-here (grown (getD (route p q .path) m 0)) l f
+      (λ same at. other-apart sx v y ne k (rw same at on) m gt (rw same at less) (rw (← same) at))))
 
--- what is in a train when one has gone on, and what is seen
+-- what is in a train when one has gone on, and what is occupied
 on-back : (ts : ℕ → Train) (i : ℕ) (up : Bool) (b y k : ℕ) → among y (with-train ts i up (b ∷ ts i .body) k .body) ≡ true →
     ((k ≡ i) × (y ≡ b)) ⊎ (among y (ts k .body) ≡ true)
 unfolding with-train among
@@ -132,12 +135,12 @@ occupied-on n ts i up b y less = same-truth (occupied n us y) (eqb y b || occupi
     us : ℕ → Train
     us = with-train ts i up (b ∷ ts i .body)
 
--- a train whose front is in x enters b, and the house is told of b
+-- a train whose front is in x enters b, and b is reported
 pub entered-sure : (p : Plan) (n : ℕ) (h : State) (o : Occupancy) (t : Positions) (ts : ℕ → Train) (i x b r j : ℕ) (xs : List ℕ) → Sound p → Sure p n h t ts →
     i < n → ts i .body ≡ x ∷ xs → b < p .sections → Enter p h (occupied n ts) t (ts i .up) x b r j → o b ≡ true →
     let us : ℕ → Train = with-train ts i (ts i .up) (b ∷ ts i .body) in Sure p n (notes p h o) t us
-entered-sure p n h o t ts i x b r j xs snd both less body inside e told = (
-  after-kept p h s z o t up x b r j snd e grown told K,
+entered-sure p n h o t ts i x b r j xs snd both less body inside e reported = (
+  after-kept p h s z o t up x b r j snd e grown reported K,
   record {
     inside = λ k y lk a. elim (on-back ts i up b y k a) [ inl c ↦ rw (c .1) inside | inr c ↦ U .inside k y lk c ];
     once = each-train ts i up (b ∷ ts i .body) (λ k tr. k < n → Once (tr .body))
@@ -148,8 +151,8 @@ entered-sure p n h o t ts i x b r j xs snd both less body inside e told = (
     hangs = each-train ts i up (b ∷ ts i .body) (λ k tr. k < n → Hangs p t (tr .up) (tr .body))
         (λ lk. rw body (in-more b x xs (e .join) (rw body at (U .hangs i less)))) (λ k ne. U .hangs k);
     ahead = λ k y ys. each-train ts i up (b ∷ ts i .body) (λ k tr. k < n → tr .body ≡ y ∷ ys → Ahead p (notes p h o) z t (tr .up) y)
-        (λ lk eq. subst (λ (c : ℕ). Ahead p (notes p h o) z t up c) (front-of (b ∷ ts i .body) y ys eq) (after-ahead p h s z o t up x b r j snd e grown told inside))
-        (λ m ne lm eq. after-others p h s z o t up x b r j snd e grown told (occupied-at n ts x i less front-in) (ts m .up) y
+        (λ lk eq. subst (λ (c : ℕ). Ahead p (notes p h o) z t up c) (front-of (b ∷ ts i .body) y ys eq) (after-ahead p h s z o t up x b r j snd e grown reported inside))
+        (λ m ne lm eq. after-others p h s z o t up x b r j snd e grown reported (occupied-at n ts x i less front-in) (ts m .up) y
         (λ lock same. U .apart m i y lm less ne (front-among (ts m .body) y ys eq) (rw same front-in)) (U .ahead m y ys lm eq)) k;
   },
 )
@@ -175,13 +178,13 @@ entered-sure p n h o t ts i x b r j xs snd both less body inside e told = (
     front-in : among x (ts i .body) ≡ true
     front-in = front-among (ts i .body) x xs body
 
--- GOES: what it takes is a section beyond the front, and no signal there or some open route that begins there, and that the house is told of that section (o)
+-- GOES: what it takes is a section beyond the front, and no signal there or some open route that begins there, and that this section is reported occupied (o)
 pub goes-sure : (p : Plan) (n : ℕ) (h : State) (o : Occupancy) (t : Positions) (ts : ℕ → Train) (i x : ℕ) (xs : List ℕ) → Sound p → Sure p n h t ts →
     i < n → ts i .body ≡ x ∷ xs → beyond p t (ts i .up) x < p .sections → (p .signal (ts i .up) x ≡ false) ⊎ ((r : ℕ) × Open p h (ts i .up) x r) → o (beyond p t (ts i .up) x) ≡ true →
     let us : ℕ → Train = with-train ts i (ts i .up) (beyond p t (ts i .up) x ∷ ts i .body) in Sure p n (notes p h o) t us
-goes-sure p n h o t ts i x xs snd k less body inside may told =
+goes-sure p n h o t ts i x xs snd k less body inside may reported =
     let e = enters p h (occupied n ts) t (ts i .up) x snd (k .0) (k .1 .ahead i x xs less body) inside may in
-    entered-sure p n h o t ts i x (beyond p t (ts i .up) x) (e .0) (e .1) xs snd k less body inside (e .2) told
+    entered-sure p n h o t ts i x (beyond p t (ts i .up) x) (e .0) (e .1) xs snd k less body inside (e .2) reported
 
 -- what `can` says
 pub can-go : (p : Plan) (n : ℕ) (w : World) (i : ℕ) → can p n w (Goes i) ≡ true →
@@ -191,7 +194,7 @@ unfolding can
 can-go p n w i ok = grind arith
 
 pub goes-keeps : (p : Plan) (n : ℕ) (w : World) (i : ℕ) → Sound p → Safe p n w → can p n w (Goes i) ≡ true → Safe p n (next p n w (Goes i))
-unfolding next state-after lies-after trains-after notes
+unfolding state-after lies-after trains-after notes
 goes-keeps p n w i snd safe ok =
     let c = can-go p n w i ok in
     let split = split-front (w .trains i .body) (c .1) in
@@ -199,8 +202,8 @@ goes-keeps p n w i snd safe ok =
     let x : ℕ = front (w .trains i .body) in
     let b : ℕ = beyond p (w .lies) up x in
     let us : ℕ → Train = with-train (w .trains) i up (b ∷ w .trains i .body) in
-    let told : occupied n us b ≡ true = rw (occupied-on n (w .trains) i up b b (c .0)) (grind arith) in
-    let v = goes-sure p n (w .interlocking) (occupied n us) (w .lies) (w .trains) i x (split .0) snd (safe .kept, safe .run) (c .0) (split .1) (c .2) (may-go p (w .interlocking) up x (c .3)) told in
+    let reported : occupied n us b ≡ true = rw (occupied-on n (w .trains) i up b b (c .0)) (grind arith) in
+    let v = goes-sure p n (w .interlocking) (occupied n us) (w .lies) (w .trains) i x (split .0) snd (safe .kept, safe .run) (c .0) (split .1) (c .2) (may-go p (w .interlocking) up x (c .3)) reported in
     record {
       kept = v .0;
       run = v .1;

@@ -9,35 +9,36 @@ use lib.ListN.{length}
 use Rattle.plan.specs.Plan.{pick, Plan, Positions, route}
 use Rattle.interlocking.specs.declared.Stage.{Stage}
 use Rattle.interlocking.specs.declared.Stage.the-variants.{Idle, Set, Shown, Used, Falling}
-use Rattle.interlocking.specs.State.{is-idle, can-fall, is-used, State, Occupancy, does, done, acts, with-stage, taken-back, unlocked, all-vacant, fallen, all-fall}
+use Rattle.interlocking.specs.State.{is-idle, can-fall, is-used, State, Occupancy, does, done, fitted, acts, taken-back, all-vacant, fallen, all-fall}
 use Rattle.interlocking.specs.declared.Request.the-variants.{Back, Tick}
 use Rattle.model.specs.World.{World, occupied, can, trains-after, state-after, after, Lawful}
 use Rattle.model.specs.declared.Event.{Event}
 use Rattle.model.specs.declared.Event.the-variants.{Asked, Turns, Goes, Draws, Reverses, Comes, Leaves}
-use Rattle.safety.specs.Promise.{is-request, is-request-or-turn, all-by, Requests-only, Lets-go, All-let-go}
+use Rattle.soundness.specs.Sound.{Sound}
+use Rattle.safety.specs.Promise.{Sized, is-request, is-request-or-turn, all-by, Requests-only, Lets-go, All-let-go}
 use Rattle.safety.specs.Safe.{Safe}
 use Rattle.safety.proofs.Tests.{either-way}
 use Rattle.safety.proofs.Stages.{idle-only}
-use Rattle.safety.proofs.Back.{none-seen-all}
+use Rattle.safety.proofs.Back.{vacant-all}
 use Rattle.safety.proofs.Steps.{always}
 use Rattle.safety.proofs.Shows.{only-more}
 
 -- ONE ROUTE
 back-goes : (p : Plan) (h : State) (s : Occupancy) (t : Positions) (r : ℕ) → r < length (p .routes) → h .stage r ≡ Used → all-vacant s (route p r .path) ≡ true →
-    acts p h s t (Back r) ≡ taken-back p h r Used
-unfolding acts does done is-used can-fall
+    acts p h s t (Back r) ≡ fitted (taken-back (p .time) h r Used)
+unfolding acts does done
 back-goes p h s t r less e none = grind arith
 
-back-idle : (p : Plan) (h : State) (r : ℕ) → (taken-back p h r Used .stage r ≡ Idle) × ((x : ℕ) → taken-back p h r Used .lock x ≡ suc r → ⊥)
-unfolding taken-back unlocked with-stage
+back-idle : (p : Plan) (h : State) (r : ℕ) → (fitted (taken-back (p .time) h r Used) .stage r ≡ Idle) × ((x : ℕ) → fitted (taken-back (p .time) h r Used) .lock x ≡ suc r → ⊥)
+unfolding fitted
 back-idle p h r = (grind arith, λ x e. grind arith)
 
-pub lets-go : Lets-go
-unfolding after Lawful can state-after is-idle all-by is-request-or-turn
-lets-go p n t hs r snd l e none =
+pub lets-go : (p : Plan) (n : ℕ) (t : Positions) (hs : List Event) → Sized p → Sound p → Lawful p n t hs → Lets-go p n t hs
+unfolding after Lawful can state-after all-by is-request-or-turn
+lets-go p n t hs sz snd l r e none =
     let w : World = after p n t hs in
-    let less : r < length (p .routes) = always p n t hs snd l .books .named r (ap is-idle e) in
-    let same = back-goes p (w .interlocking) (occupied n (w .trains)) (w .lies) r less e (none-seen-all (occupied n (w .trains)) (route p r .path) none) in
+    let less : r < length (p .routes) = always p n t hs sz snd l .books .named r (ap is-idle e) in
+    let same = back-goes p (w .interlocking) (occupied n (w .trains)) (w .lies) r less e (vacant-all (occupied n (w .trains)) (route p r .path) none) in
     let gone = back-idle p (w .interlocking) r in
     (Asked (Back r) ∷ [], refl, (refl, l), rw same (gone .0), rw same (gone .1))
 
@@ -77,40 +78,40 @@ backs-trains p n t hs zero = refl
 backs-trains p n t hs (suc r) = backs-trains p n t hs r
 
 rests : (p : Plan) (h : State) (s : Occupancy) (r : ℕ) (g : Stage) → h .stage r ≡ g → r < length (p .routes) → all-vacant s (route p r .path) ≡ true →
-    resting (pick (ltb r (length (p .routes)) && (can-fall g || (is-used g && all-vacant s (route p r .path)))) (taken-back p h r g) h .stage r) ≡ true
-unfolding taken-back can-fall is-used with-stage resting
+    resting (pick (ltb r (length (p .routes)) && (can-fall g || (is-used g && all-vacant s (route p r .path)))) (fitted (taken-back (p .time) h r g)) h .stage r) ≡ true
+unfolding resting fitted
 rests p h s r Idle e l none = grind arith
 rests p h s r Set e l none = grind arith
 rests p h s r Shown e l none = grind arith
 rests p h s r Used e l none = grind arith
 rests p h s r (Falling m) e l none = grind arith
 
-else-same : (p : Plan) (h : State) (r q : ℕ) (b : Bool) (g : Stage) → (q ≡ r → ⊥) → pick b (taken-back p h r g) h .stage q ≡ h .stage q
-unfolding taken-back with-stage
-else-same p h r q b Idle ne = grind arith
-else-same p h r q b Set ne = grind arith
-else-same p h r q b Shown ne = grind arith
-else-same p h r q b Used ne = grind arith
-else-same p h r q b (Falling m) ne = grind arith
+else-same : (p : Plan) (h : State) (r q : ℕ) (b : Bool) (g : Stage) → q < 64 → (q ≡ r → ⊥) → pick b (fitted (taken-back (p .time) h r g)) h .stage q ≡ h .stage q
+unfolding fitted
+else-same p h r q b Idle room ne = grind arith
+else-same p h r q b Set room ne = grind arith
+else-same p h r q b Shown room ne = grind arith
+else-same p h r q b Used room ne = grind arith
+else-same p h r q b (Falling m) room ne = grind arith
 
 back-rests : (p : Plan) (h : State) (s : Occupancy) (t : Positions) (r : ℕ) → r < length (p .routes) → all-vacant s (route p r .path) ≡ true → resting (acts p h s t (Back r) .stage r) ≡ true
 unfolding acts does done
 back-rests p h s t r l none = rests p h s r (h .stage r) refl l none
 
-back-else : (p : Plan) (h : State) (s : Occupancy) (t : Positions) (r q : ℕ) → (q ≡ r → ⊥) → acts p h s t (Back r) .stage q ≡ h .stage q
+back-else : (p : Plan) (h : State) (s : Occupancy) (t : Positions) (r q : ℕ) → q < 64 → (q ≡ r → ⊥) → acts p h s t (Back r) .stage q ≡ h .stage q
 unfolding acts done
-back-else p h s t r q ne = else-same p h r q (does p h s t (Back r)) (h .stage r) ne
+back-else p h s t r q room ne = else-same p h r q (does p h s t (Back r)) (h .stage r) room ne
 
-backs-rest : (p : Plan) (n : ℕ) (t : Positions) (hs : List Event) (r : ℕ) → r ≤ length (p .routes) → ((x : ℕ) → occupied n (after p n t hs .trains) x ≡ false) →
+backs-rest : (p : Plan) (n : ℕ) (t : Positions) (hs : List Event) (r : ℕ) → Sized p → r ≤ length (p .routes) → ((x : ℕ) → occupied n (after p n t hs .trains) x ≡ false) →
     (q : ℕ) → q < r → resting (after p n t (backs r ++ hs) .interlocking .stage q) ≡ true
 unfolding backs after state-after
-backs-rest p n t hs zero l none q less = absurd (omega arith)
-backs-rest p n t hs (suc r) l none q less =
+backs-rest p n t hs zero sz l none q less = absurd (omega arith)
+backs-rest p n t hs (suc r) sz l none q less =
     let w : World = after p n t (backs r ++ hs) in
     let empty : (x : ℕ) → occupied n (w .trains) x ≡ false = λ x. rw (backs-trains p n t hs r) (none x) in
     either-way q r
-    (λ e. rw e (back-rests p (w .interlocking) (occupied n (w .trains)) (w .lies) r l (none-seen-all (occupied n (w .trains)) (route p r .path) (λ x a. empty x))))
-    (λ e. rw (back-else p (w .interlocking) (occupied n (w .trains)) (w .lies) r q e) (backs-rest p n t hs r (omega arith) none q (omega arith)))
+    (λ e. rw e (back-rests p (w .interlocking) (occupied n (w .trains)) (w .lies) r l (vacant-all (occupied n (w .trains)) (route p r .path) (λ x a. empty x))))
+    (λ e. rw (back-else p (w .interlocking) (occupied n (w .trains)) (w .lies) r q (let room = sz .routes in omega arith) e) (backs-rest p n t hs r sz (omega arith) none q (omega arith)))
 
 -- what a tick makes of a stage
 lower : Stage → Stage
@@ -122,7 +123,7 @@ lower (Falling zero) = Idle
 lower (Falling (suc m)) = Falling m
 
 fallen-stage : (h : State) (r q : ℕ) (g : Stage) → h .stage r ≡ g → fallen h r g .stage q ≡ pick (eqb q r) (lower g) (h .stage q)
-unfolding fallen lower with-stage
+unfolding lower
 fallen-stage h r q Idle e = grind arith
 fallen-stage h r q Set e = grind arith
 fallen-stage h r q Shown e = grind arith
@@ -181,23 +182,22 @@ unfolding ticks all-by is-request
 ticks-only zero = refl
 ticks-only (suc k) = ticks-only k
 
-tick-stage : (p : Plan) (h : State) (s : Occupancy) (t : Positions) (q : ℕ) → q < length (p .routes) → acts p h s t Tick .stage q ≡ lower (h .stage q)
-unfolding acts does done
-tick-stage p h s t q l = let all = all-fall-stage (length (p .routes)) h q in grind arith
+tick-stage : (p : Plan) (h : State) (s : Occupancy) (t : Positions) (q : ℕ) → Sized p → q < length (p .routes) → acts p h s t Tick .stage q ≡ lower (h .stage q)
+unfolding acts does done fitted
+tick-stage p h s t q sz l = let room = sz .routes in let all = all-fall-stage (length (p .routes)) h q in grind arith
 
-ticks-due : (p : Plan) (n : ℕ) (t : Positions) (hs : List Event) (k b q : ℕ) → q < length (p .routes) → due (k + b) (after p n t hs .interlocking .stage q) ≡ true →
+ticks-due : (p : Plan) (n : ℕ) (t : Positions) (hs : List Event) (k b q : ℕ) → Sized p → q < length (p .routes) → due (k + b) (after p n t hs .interlocking .stage q) ≡ true →
     due b (after p n t (ticks k ++ hs) .interlocking .stage q) ≡ true
 unfolding ticks after state-after
-ticks-due p n t hs zero b q l e = let same : 0 + b ≡ b = omega arith in rw same at e
-ticks-due p n t hs (suc k) b q l e =
+ticks-due p n t hs zero b q sz l e = let same : 0 + b ≡ b = omega arith in rw same at e
+ticks-due p n t hs (suc k) b q sz l e =
     let w : World = after p n t (ticks k ++ hs) in
     let same : k + suc b ≡ suc k + b = omega arith in
-    let old = ticks-due p n t hs k (suc b) q l (rw same e) in
-    rw (tick-stage p (w .interlocking) (occupied n (w .trains)) (w .lies) q l) (due-lower b (w .interlocking .stage q) old)
+    let old = ticks-due p n t hs k (suc b) q sz l (rw same e) in
+    rw (tick-stage p (w .interlocking) (occupied n (w .trains)) (w .lies) q sz l) (due-lower b (w .interlocking .stage q) old)
 
-pub all-let-go : All-let-go
-unfolding is-idle
-all-let-go p n t hs snd l none = (gs, only, lawful, idles, λ x. unlocked-all (w .interlocking .lock x) x refl)
+pub all-let-go : (p : Plan) (n : ℕ) (t : Positions) (hs : List Event) → Sized p → Sound p → Lawful p n t hs → All-let-go p n t hs
+all-let-go p n t hs sz snd l none = (gs, only, lawful, idles, λ x. unlocked-all (w .interlocking .lock x) x refl)
   where
     gs : List Event
     gs = ticks (suc (p .time)) ++ backs (length (p .routes))
@@ -215,17 +215,17 @@ all-let-go p n t hs snd l none = (gs, only, lawful, idles, λ x. unlocked-all (w
     mid = backs (length (p .routes)) ++ hs
 
     safe-mid : Safe p n (after p n t mid)
-    safe-mid = always p n t mid snd (requests-lawful p n t hs (backs (length (p .routes))) (backs-only (length (p .routes))) l)
+    safe-mid = always p n t mid sz snd (requests-lawful p n t hs (backs (length (p .routes))) (backs-only (length (p .routes))) l)
 
     in-plan : (r : ℕ) → r < length (p .routes) → w .interlocking .stage r ≡ Idle
     in-plan r less =
-        let start = due-first (p .time) (after p n t mid .interlocking .stage r) (backs-rest p n t hs (length (p .routes)) (omega arith) none r less) (safe-mid .books .soon r) in
+        let start = due-first (p .time) (after p n t mid .interlocking .stage r) (backs-rest p n t hs (length (p .routes)) sz (omega arith) none r less) (safe-mid .books .soon r) in
         let same : suc (p .time) ≡ suc (p .time) + 0 = omega arith in
-        let last = ticks-due p n t mid (suc (p .time)) 0 r less (rw (← same) start) in
+        let last = ticks-due p n t mid (suc (p .time)) 0 r sz less (rw (← same) start) in
         rw (append-assoc (ticks (suc (p .time))) (backs (length (p .routes))) hs) (due-last (after p n t (ticks (suc (p .time)) ++ mid) .interlocking .stage r) last)
 
     safe : Safe p n w
-    safe = always p n t (gs ++ hs) snd lawful
+    safe = always p n t (gs ++ hs) sz snd lawful
 
     idles : (r : ℕ) → w .interlocking .stage r ≡ Idle
     idles r = go (is-idle (w .interlocking .stage r)) refl

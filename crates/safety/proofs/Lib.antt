@@ -1,6 +1,6 @@
 mod Tests
 mod Lists
-mod Occupancy
+mod Occupied
 mod Needs
 mod Stages
 mod Ways
@@ -19,9 +19,12 @@ mod Reverses
 mod Turns
 mod Enters
 mod Goes
-mod Steps
+mod Fitted
+mod Sides
+pub mod Steps
 mod Always
 mod Shows
 mod LetsGo
-mod Order
-mod Implied
+pub mod Order
+pub mod Guards
+pub mod Theorem

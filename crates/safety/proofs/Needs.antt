@@ -58,7 +58,7 @@ with-wants-met ns t u m = met-agree u (with-wants ns t) ns m (λ q e. with-wants
 -- nothing holds a point, and nothing stands or is locked where it lies
 pub record Loose (p : Plan) (h : State) (o : Occupancy) (q : ℕ) : Type 0 where
   pub unheld : held p h q (length (p .routes)) ≡ false
-  pub unseen : o (p .place q) ≡ false
+  pub empty-place : o (p .place q) ≡ false
   pub unlock : h .lock (p .place q) ≡ 0
 
 pub can-have-at : (p : Plan) (h : State) (o : Occupancy) (ns : List Need) (u : Positions) (q : ℕ) →
@@ -67,7 +67,7 @@ unfolding can-have needed met sameb
 can-have-at p h o [] u q a b c f = grind arith
 can-have-at p h o (n ∷ ns) u q a b c f =
     let ih = can-have-at p h o ns u q in
-    let loose : held p h q (length (p .routes)) ≡ false → o (p .place q) ≡ false → h .lock (p .place q) ≡ 0 → ⊥ = λ x y z. f (record { unheld = x; unseen = y; unlock = z }) in
+    let loose : held p h q (length (p .routes)) ≡ false → o (p .place q) ≡ false → h .lock (p .place q) ≡ 0 → ⊥ = λ x y z. f (record { unheld = x; empty-place = y; unlock = z }) in
     grind (arith, ih, loose)
 
 -- of needs that can be had, a point that isn't loose is wanted as it was

@@ -9,7 +9,7 @@ use Rattle.plan.specs.Plan.{among}
 use Rattle.model.specs.World.{Train, occupied, with-train}
 use Rattle.safety.proofs.Tests.{clash, decide, either-way}
 
--- what is seen, some train stands in
+-- what is occupied, some train stands in
 pub occupied-some : (n : ℕ) (ts : ℕ → Train) (x : ℕ) → occupied n ts x ≡ true → (i : ℕ) × (i < n) × (among x (ts i .body) ≡ true)
 unfolding occupied
 occupied-some zero ts x h = absurd (grind arith)
@@ -19,16 +19,16 @@ occupied-some (suc n) ts x h =
       | inr e ↦ (let r = occupied-some n ts x (grind arith) in (r .0, omega (arith, r .1), r .2))
     ]
 
--- what a train stands in is seen
+-- what a train stands in is occupied
 pub occupied-at : (n : ℕ) (ts : ℕ → Train) (x i : ℕ) → i < n → among x (ts i .body) ≡ true → occupied n ts x ≡ true
 unfolding occupied
 occupied-at zero ts x i h a = absurd (omega arith)
 occupied-at (suc n) ts x i h a = let ih = occupied-at n ts x i in grind arith
 
-pub unseen-at : (n : ℕ) (ts : ℕ → Train) (x i : ℕ) → i < n → occupied n ts x ≡ false → among x (ts i .body) ≡ true → ⊥
-unseen-at n ts x i h s a = clash (occupied n ts x) (occupied-at n ts x i h a) s
+pub vacant-at : (n : ℕ) (ts : ℕ → Train) (x i : ℕ) → i < n → occupied n ts x ≡ false → among x (ts i .body) ≡ true → ⊥
+vacant-at n ts x i h s a = clash (occupied n ts x) (occupied-at n ts x i h a) s
 
--- trains in fewer sections are seen in fewer
+-- trains in fewer sections occupy fewer
 pub occupied-less : (n : ℕ) (ts us : ℕ → Train) (x : ℕ) → ((i : ℕ) → i < n → among x (us i .body) ≡ true → among x (ts i .body) ≡ true) →
     occupied n us x ≡ true → occupied n ts x ≡ true
 occupied-less n ts us x f h = let w = occupied-some n us x h in occupied-at n ts x (w .0) (w .1) (f (w .0) (w .1) (w .2))

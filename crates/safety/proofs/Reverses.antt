@@ -6,12 +6,12 @@ use Prim.Native.Nat.{ℕ, _<_}
 use native.Mathlib.Omega.{arith}
 use Rattle.plan.specs.Plan.{Plan, Positions, among, last-of, Once}
 use Rattle.interlocking.specs.State.{State}
-use Rattle.model.specs.World.{Train, World, occupied, reversed, with-train, can, state-after, lies-after, trains-after}
+use Rattle.model.specs.World.{next, Train, World, occupied, reversed, with-train, can, state-after, lies-after, trains-after}
 use Rattle.model.specs.declared.Event.the-variants.{Reverses}
 use Rattle.safety.specs.Promise.{Hangs}
-use Rattle.safety.specs.Safe.{Ahead, at-signal, Run, Sure, Safe, next}
+use Rattle.safety.specs.Safe.{Ahead, at-signal, Run, Sure, Safe}
 use Rattle.safety.proofs.Lists.{among-round, once-round, front-round, front-of}
-use Rattle.safety.proofs.Occupancy.{each-train, occupied-same}
+use Rattle.safety.proofs.Occupied.{each-train, occupied-same}
 use Rattle.safety.proofs.Ways.{hangs-round}
 
 module _ (p : Plan) (n : ℕ) (ts : ℕ → Train) (i : ℕ) where
@@ -43,7 +43,7 @@ pub reverses-sure : (p : Plan) (n : ℕ) (h : State) (t : Positions) (ts : ℕ �
 reverses-sure p n h t ts i sign k = (rw (same p n ts i) (k .0), reverses-run p n ts i h t sign (k .1))
 
 pub reverses-keeps : (p : Plan) (n : ℕ) (w : World) (i : ℕ) → Safe p n w → can p n w (Reverses i) ≡ true → Safe p n (next p n w (Reverses i))
-unfolding next state-after lies-after trains-after can
+unfolding state-after lies-after trains-after can
 reverses-keeps p n w i safe ok = record {
   kept = rw (same p n (w .trains) i) (safe .kept);
   run = reverses-run p n (w .trains) i (w .interlocking) (w .lies) (grind arith) (safe .run);

@@ -10,7 +10,7 @@ use Rattle.model.specs.World.{Train, occupied, with-train}
 use Rattle.safety.specs.Promise.{Hangs}
 use Rattle.safety.specs.Safe.{Ahead, Kept, Run, Books}
 use Rattle.safety.proofs.Tests.{fails}
-use Rattle.safety.proofs.Occupancy.{each-train, occupied-less}
+use Rattle.safety.proofs.Occupied.{each-train, occupied-less}
 use Rattle.safety.proofs.Carry.{ahead-moves, route-moves}
 
 -- less is occupied
@@ -23,7 +23,7 @@ kept-less p h s s′ t f k = record {
   lies = k .lies;
 }
 
--- less is told to be
+-- less is reported occupied
 pub books-less : (p : Plan) (h : State) (o o′ : Occupancy) → ((x r : ℕ) → h .lock x ≡ suc r → o′ x ≡ true → o x ≡ true) → Books p h o → Books p h o′
 books-less p h o o′ f b = record { named = b .named; soon = b .soon; marked = λ x r e c. b .marked x r e (f x r e c) }
 
@@ -44,9 +44,9 @@ fewer-all : (ts : ℕ → Train) (i : ℕ) (b : List ℕ) → ((x : ℕ) → amo
     (j x : ℕ) → among x (with-train ts i (ts i .up) b j .body) ≡ true → among x (ts j .body) ≡ true
 fewer-all ts i b f = each-train ts i (ts i .up) b (λ j v. (x : ℕ) → among x (v .body) ≡ true → among x (ts j .body) ≡ true) f (λ j ne x a. a)
 
-pub fewer-seen : (n : ℕ) (ts : ℕ → Train) (i : ℕ) (b : List ℕ) → ((x : ℕ) → among x b ≡ true → among x (ts i .body) ≡ true) →
+pub fewer-occupied : (n : ℕ) (ts : ℕ → Train) (i : ℕ) (b : List ℕ) → ((x : ℕ) → among x b ≡ true → among x (ts i .body) ≡ true) →
     (x : ℕ) → occupied n (with-train ts i (ts i .up) b) x ≡ true → occupied n ts x ≡ true
-fewer-seen n ts i b f x e = occupied-less n ts (with-train ts i (ts i .up) b) x (λ j l a. fewer-all ts i b f j x a) e
+fewer-occupied n ts i b f x e = occupied-less n ts (with-train ts i (ts i .up) b) x (λ j l a. fewer-all ts i b f j x a) e
 
 pub shorter-run : (p : Plan) (n : ℕ) (h : State) (t : Positions) (ts : ℕ → Train) (i : ℕ) (b : List ℕ) → Shorter p t (ts i .up) (ts i .body) b →
     Run p n h t ts → Run p n h t (with-train ts i (ts i .up) b)
@@ -54,7 +54,7 @@ shorter-run p n h t ts i b c run =
     let u : ℕ → Train = with-train ts i (ts i .up) b in
     let less : (j x : ℕ) → among x (u j .body) ≡ true → among x (ts j .body) ≡ true = fewer-all ts i b (c .fewer) in
     let moved : (up : Bool) (x : ℕ) → Ahead p h (occupied n ts) t up x → Ahead p h (occupied n u) t up x =
-    λ up x a. ahead-less p h (occupied n ts) (occupied n u) t up x (λ y r l e. fewer-seen n ts i b (c .fewer) y e) a in
+    λ up x a. ahead-less p h (occupied n ts) (occupied n u) t up x (λ y r l e. fewer-occupied n ts i b (c .fewer) y e) a in
     record {
       inside = λ j x l a. run .inside j x l (less j x a);
       once = each-train ts i (ts i .up) b (λ j v. j < n → Once (v .body)) (λ l. c .once) (λ j ne l. run .once j l);

@@ -11,12 +11,13 @@ use borrow.Author.Tests.{lt-ltb}
 use Rattle.plan.specs.Plan.{pick, sameb, Plan, Positions, route, met, needed}
 use Rattle.plan.specs.declared.Need.{Need}
 use Rattle.interlocking.specs.declared.Stage.the-variants.{Set, Shown}
-use Rattle.interlocking.specs.State.{is-idle, is-set, State, Occupancy, does, done, acts, with-stage}
+use Rattle.interlocking.specs.State.{is-idle, State, Occupancy, does, done, fitted, acts}
 use Rattle.interlocking.specs.declared.Request.the-variants.{Ask, Clear}
 use Rattle.model.specs.World.{World, occupied, can, lies-after, state-after, after, Lawful}
 use Rattle.model.specs.declared.Event.{Event}
 use Rattle.model.specs.declared.Event.the-variants.{Asked, Turns}
-use Rattle.safety.specs.Promise.{is-request-or-turn, all-by, Requests-and-turns, Comes-to-show, Set-comes-to-show}
+use Rattle.soundness.specs.Sound.{Sound}
+use Rattle.safety.specs.Promise.{Sized, is-request-or-turn, all-by, Requests-and-turns, Comes-to-show, Set-comes-to-show}
 use Rattle.safety.proofs.Tests.{decide}
 use Rattle.safety.proofs.Needs.{met-nil, met-tail, met-either}
 use Rattle.safety.proofs.Steps.{always}
@@ -59,22 +60,22 @@ turnings-met p n t hs (m ∷ ms) h =
     (rw (turnings-state p n t hs ms) h) (turnings-met p n t hs ms (met-tail (after p n t hs .interlocking .wanted) m ms h))
 
 -- what is asked is done
-clear-shows : (p : Plan) (h : State) (s : Occupancy) (t : Positions) (r : ℕ) → r < length (p .routes) → h .stage r ≡ Set → met t (route p r .needs) ≡ true → met (h .wanted) (route p r .needs) ≡ true →
+clear-shows : (p : Plan) (h : State) (s : Occupancy) (t : Positions) (r : ℕ) → Sized p → r < length (p .routes) → h .stage r ≡ Set → met t (route p r .needs) ≡ true → met (h .wanted) (route p r .needs) ≡ true →
     acts p h s t (Clear r) .stage r ≡ Shown
-unfolding acts does done is-set with-stage
-clear-shows p h s t r less e m w = grind arith
+unfolding acts does done fitted
+clear-shows p h s t r sz less e m w = let room = sz .routes in grind arith
 
-ask-sets : (p : Plan) (h : State) (s : Occupancy) (t : Positions) (r : ℕ) → does p h s t (Ask r) ≡ true → acts p h s t (Ask r) .stage r ≡ Set
-unfolding acts does done with-stage
-ask-sets p h s t r d = grind arith
+ask-sets : (p : Plan) (h : State) (s : Occupancy) (t : Positions) (r : ℕ) → Sized p → does p h s t (Ask r) ≡ true → acts p h s t (Ask r) .stage r ≡ Set
+unfolding acts does done fitted
+ask-sets p h s t r sz d = let room = sz .routes in grind arith
 
-pub set-comes-to-show : Set-comes-to-show
-unfolding after Lawful can state-after is-idle all-by is-request-or-turn
-set-comes-to-show p n t hs r snd l e = (
+pub set-comes-to-show : (p : Plan) (n : ℕ) (t : Positions) (hs : List Event) → Sized p → Sound p → Lawful p n t hs → Set-comes-to-show p n t hs
+unfolding after Lawful can state-after all-by is-request-or-turn
+set-comes-to-show p n t hs sz snd l r e = (
   Asked (Clear r) ∷ turnings ms,
   turnings-only ms,
   (refl, turnings-lawful p n t hs ms (snd .routes-fit r less .known) l),
-  clear-shows p (w .interlocking) (occupied n (w .trains)) (w .lies) r less (rw same e) (turnings-met p n t hs ms wants) (rw same wants),
+  clear-shows p (w .interlocking) (occupied n (w .trains)) (w .lies) r sz less (rw same e) (turnings-met p n t hs ms wants) (rw same wants),
 )
   where
     ms : List Need
@@ -84,24 +85,24 @@ set-comes-to-show p n t hs r snd l e = (
     w = after p n t (turnings ms ++ hs)
 
     less : r < length (p .routes)
-    less = always p n t hs snd l .books .named r (ap is-idle e)
+    less = always p n t hs sz snd l .books .named r (ap is-idle e)
 
     same : w .interlocking ≡ after p n t hs .interlocking
     same = turnings-state p n t hs ms
 
     wants : met (after p n t hs .interlocking .wanted) ms ≡ true
-    wants = always p n t hs snd l .kept .wants r less (ap is-idle e)
+    wants = always p n t hs sz snd l .kept .wants r less (ap is-idle e)
 
 pub only-more : (f : Event → Bool) (gs ks : List Event) → all-by f gs ≡ true → all-by f ks ≡ true → all-by f (gs ++ ks) ≡ true
 unfolding all-by
 only-more f [] ks a b = b
 only-more f (g ∷ gs) ks a b = let ih = only-more f gs ks in grind (arith, ih)
 
-pub comes-to-show : Comes-to-show
+pub comes-to-show : (p : Plan) (n : ℕ) (t : Positions) (hs : List Event) → Sized p → Sound p → Lawful p n t hs → Comes-to-show p n t hs
 unfolding after Lawful can state-after all-by is-request-or-turn
-comes-to-show p n t hs r snd l d =
-    let a = ask-sets p (after p n t hs .interlocking) (occupied n (after p n t hs .trains)) (after p n t hs .lies) r d in
-    let o = set-comes-to-show p n t (Asked (Ask r) ∷ hs) r snd (refl, l) a in
+comes-to-show p n t hs sz snd l r d =
+    let a = ask-sets p (after p n t hs .interlocking) (occupied n (after p n t hs .trains)) (after p n t hs .lies) r sz d in
+    let o = set-comes-to-show p n t (Asked (Ask r) ∷ hs) sz snd (refl, l) r a in
     let P : List Event → Type 0 = λ ks. Lawful p n t ks × (after p n t ks .interlocking .stage r ≡ Shown) in
     let q : P ((o .0 ++ (Asked (Ask r) ∷ [])) ++ hs) = subst P (sym (append-assoc (o .0) (Asked (Ask r) ∷ []) hs)) (o .2, o .3) in
     (o .0 ++ (Asked (Ask r) ∷ []), only-more is-request-or-turn (o .0) (Asked (Ask r) ∷ []) (o .1) refl, q .0, q .1)

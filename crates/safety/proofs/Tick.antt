@@ -15,7 +15,6 @@ use Rattle.safety.proofs.Back.{falls-kept, falls, waiting-goes, waiting-unmark
 
 -- one route: one that is falling falls by one or is let go, any other stays
 fallen-kept : (p : Plan) (h : State) (s : Occupancy) (t : Positions) (r : ℕ) → Kept p h s t → (g : Stage) → h .stage r ≡ g → Kept p (fallen h r g) s t
-unfolding fallen
 fallen-kept p h s t r k Idle e = k
 fallen-kept p h s t r k Set e = k
 fallen-kept p h s t r k Shown e = k
@@ -24,7 +23,6 @@ fallen-kept p h s t r k (Falling zero) e = let-go-kept p h s t r (h .passed) k
 fallen-kept p h s t r k (Falling (suc m)) e = falls-kept p h s t r m k (rw e) (rw e)
 
 fallen-sure : (p : Plan) (n : ℕ) (h : State) (t : Positions) (ts : ℕ → Train) (r : ℕ) → Sure p n h t ts → (g : Stage) → h .stage r ≡ g → Sure p n (fallen h r g) t ts
-unfolding fallen
 fallen-sure p n h t ts r k Idle e = k
 fallen-sure p n h t ts r k Set e = k
 fallen-sure p n h t ts r k Shown e = k
@@ -33,7 +31,6 @@ fallen-sure p n h t ts r k (Falling zero) e = waiting-goes p n h t ts r (h .pass
 fallen-sure p n h t ts r k (Falling (suc m)) e = falls p n h t ts r m (rw e) (rw e) k
 
 fallen-books : (p : Plan) (h : State) (o : Occupancy) (r : ℕ) → Books p h o → (g : Stage) → h .stage r ≡ g → Books p (fallen h r g) o
-unfolding fallen
 fallen-books p h o r b Idle e = b
 fallen-books p h o r b Set e = b
 fallen-books p h o r b Shown e = b
@@ -42,7 +39,6 @@ fallen-books p h o r b (Falling zero) e = let-go-books p h o r (h .passed) b (λ
 fallen-books p h o r b (Falling (suc m)) e = stage-books p h o r (Falling m) b (rw e) (λ i q. let old = b .soon r (suc m) e in grind arith)
 
 fallen-unmarked : (p : Plan) (h : State) (s : Occupancy) (t : Positions) (r : ℕ) → r < length (p .routes) → Kept p h s t → Unmarked p h → (g : Stage) → h .stage r ≡ g → Unmarked p (fallen h r g)
-unfolding fallen
 fallen-unmarked p h s t r l k b Idle e = b
 fallen-unmarked p h s t r l k b Set e = b
 fallen-unmarked p h s t r l k b Shown e = b

@@ -9,12 +9,12 @@ use lib.ListN.{length, getD}
 use Rattle.plan.specs.Plan.{pick, Plan, Positions, beyond, route, needed}
 use Rattle.soundness.specs.Sound.{Fit, Sound}
 use Rattle.interlocking.specs.State.{State, Occupancy}
-use Rattle.model.specs.World.{Train, World, occupied, state-after, lies-after, trains-after}
+use Rattle.model.specs.World.{next, Train, World, occupied, state-after, lies-after, trains-after}
 use Rattle.model.specs.declared.Event.the-variants.{Turns}
-use Rattle.safety.specs.Safe.{is-cleared, Ahead, at-signal, at-end, on-route, Kept, Run, Sure, Safe, next}
+use Rattle.safety.specs.Safe.{is-cleared, Ahead, at-signal, at-end, on-route, Kept, Run, Sure, Safe}
 use Rattle.safety.proofs.Tests.{clash, decide, either-way}
 use Rattle.safety.proofs.Lists.{among-at}
-use Rattle.safety.proofs.Occupancy.{occupied-at}
+use Rattle.safety.proofs.Occupied.{occupied-at}
 use Rattle.safety.proofs.Needs.{met-same, met-agree}
 use Rattle.safety.proofs.Stages.{cleared-busy}
 use Rattle.safety.proofs.Ways.{beyond-agree, joined-agree, hangs-agree, leads-inside}
@@ -121,7 +121,7 @@ turns-unbound p h s t q k j l = go (h .wanted j) (t j) refl refl
     go false true e f = inr (unbound (λ same. grind arith))
 
 pub turns-keeps : (p : Plan) (n : ℕ) (w : World) (q : ℕ) → Sound p → Safe p n w → Safe p n (next p n w (Turns q))
-unfolding next state-after lies-after trains-after
+unfolding state-after lies-after trains-after
 turns-keeps p n w q snd safe =
     let t′ : Positions = λ j. pick (eqb j q) (w .interlocking .wanted j) (w .lies j) in
     let only = turns-unbound p (w .interlocking) (occupied n (w .trains)) (w .lies) q (safe .kept) in

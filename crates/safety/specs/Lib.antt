@@ -1,2 +1,3 @@
 pub mod Promise
 pub mod Safe
+pub mod Sides

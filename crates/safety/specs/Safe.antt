@@ -1,4 +1,4 @@
--- The inductive invariant: what holds in every world that a lawful row of happenings leads to. Assumes nothing: these are definitions.
+-- The inductive invariant: what holds in every world that a lawful row of events leads to. Assumes nothing: these are definitions.
 use mathlib.Core.Path.{_≡_}
 use mathlib.Core.Bool.{Bool, true, false}
 use mathlib.Core.List.{List, _∷_}
@@ -9,9 +9,9 @@ use Rattle.soundness.specs.Sound.{Sound}
 use Rattle.interlocking.specs.declared.Stage.{Stage}
 use Rattle.interlocking.specs.declared.Stage.the-variants.{Idle, Set, Shown, Used, Falling}
 use Rattle.interlocking.specs.State.{is-idle, State, Occupancy}
-use Rattle.model.specs.World.{Train, World, occupied, can, state-after, lies-after, trains-after}
+use Rattle.model.specs.World.{next, Train, World, occupied, can}
 use Rattle.model.specs.declared.Event.{Event}
-use Rattle.safety.specs.Promise.{Hangs}
+use Rattle.safety.specs.Promise.{Sized, Hangs}
 
 -- set, shown or falling: the whole path is still the route's and no train is in it
 abbrev pub is-waiting : Stage → Bool
@@ -21,7 +21,7 @@ is-waiting Shown = true
 is-waiting Used = false
 is-waiting (Falling n) = true
 
--- shown, falling or used: its points have been seen to lie as it needs
+-- shown, falling or used: its points were reported to lie as it needs
 abbrev pub is-cleared : Stage → Bool
 is-cleared Idle = false
 is-cleared Set = false
@@ -55,7 +55,7 @@ pub data Ahead (p : Plan) (h : State) (s : Occupancy) (t : Positions) (up : Bool
   at-end : ((u : Positions) → p .sections ≤ beyond p u up x) → Ahead p h s t up x
   on-route : (r k : ℕ) → On-route p h s t up x r k → Ahead p h s t up x
 
--- what concerns the house, what is really occupied (s) and how the points really lie (t)
+-- what concerns the interlocking, what is really occupied (s) and how the points really lie (t)
 pub record Kept (p : Plan) (h : State) (s : Occupancy) (t : Positions) : Type 0 where
   pub still : (q : ℕ) → q < p .points → s (p .place q) ≡ true → h .wanted q ≡ t q
   pub owner : (x r : ℕ) → h .lock x ≡ suc r → (r < length (p .routes)) × (among x (route p r .path) ≡ true) × (is-idle (h .stage r) ≡ false)
@@ -72,18 +72,19 @@ pub record Run (p : Plan) (n : ℕ) (h : State) (t : Positions) (ts : ℕ → Tr
   pub hangs : (i : ℕ) → i < n → Hangs p t (ts i .up) (ts i .body)
   pub ahead : (i x : ℕ) (xs : List ℕ) → i < n → ts i .body ≡ x ∷ xs → Ahead p h (occupied n ts) t (ts i .up) x
 
--- what the house keeps in order for itself, of what it is told is occupied (o): only routes of the plan are ever not idle, a falling one has at most the plan's time left,
--- and what is locked and told to be occupied is marked as passed. Nothing above rests on it
+-- what the interlocking keeps in order for itself, of what is reported occupied (o): only routes of the plan are ever not idle, a falling one has at most the plan's time left,
+-- and what is locked and reported occupied is marked as passed. Nothing above rests on it
 pub record Books (p : Plan) (h : State) (o : Occupancy) : Type 0 where
   pub named : (r : ℕ) → is-idle (h .stage r) ≡ false → r < length (p .routes)
   pub soon : (r m : ℕ) → h .stage r ≡ Falling m → m ≤ p .time
   pub marked : (x r : ℕ) → h .lock x ≡ suc r → o x ≡ true → h .passed x ≡ true
 
--- no mark of passing too many: none where nothing is locked, and none before a train has come. This holds as long as nothing is told to be occupied that is not; nothing rests on it
+-- no mark of passing too many: none where nothing is locked, and none before a train has come. This holds as long as nothing is reported occupied that is not; nothing rests on it
 pub record Unmarked (p : Plan) (h : State) : Type 0 where
   pub clean : (x : ℕ) → h .lock x ≡ 0 → h .passed x ≡ false
   pub fresh : (r : ℕ) → r < length (p .routes) → is-waiting (h .stage r) ≡ true → (x : ℕ) → among x (route p r .path) ≡ true → h .passed x ≡ false
 
+-- the invariant
 pub record Safe (p : Plan) (n : ℕ) (w : World) : Type 0 where
   pub kept : Kept p (w .interlocking) (occupied n (w .trains)) (w .lies)
   pub run : Run p n (w .interlocking) (w .lies) (w .trains)
@@ -94,13 +95,10 @@ pub record Safe (p : Plan) (n : ℕ) (w : World) : Type 0 where
 abbrev pub Sure : Plan → ℕ → State → Positions → (ℕ → Train) → Type 0
 Sure p n h t ts = Kept p h (occupied n ts) t × Run p n h t ts
 
--- what is occupied is told to be
+-- what is occupied is reported to be
 abbrev pub Covers : Occupancy → Occupancy → Type 0
 Covers o s = (x : ℕ) → s x ≡ true → o x ≡ true
 
--- one step
-unfoldable pub next : Plan → ℕ → World → Event → World
-next p n w h = record { interlocking = state-after p n w h; lies = lies-after w h; trains = trains-after p w h }
-
+-- ONE STEP: each event that can happen keeps the invariant
 abbrev pub Keeps : Type 0
-Keeps = (p : Plan) (n : ℕ) (w : World) (h : Event) → Sound p → Safe p n w → can p n w h ≡ true → Safe p n (next p n w h)
+Keeps = (p : Plan) (n : ℕ) (w : World) (h : Event) → Sized p → Sound p → Safe p n w → can p n w h ≡ true → Safe p n (next p n w h)

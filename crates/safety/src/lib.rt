@@ -1,116 +1,69 @@
+// What holds of every sound plan and every lawful row of events, and of every state. Each function returns nothing of use: its contract is the statement.
+ghost use Rattle.soundness.specs.Promise.{Judged};
+ghost use Rattle.safety.specs.Promise.{Agrees, Always-in-room, Arrays-in-room, Either-order, Strangers-in-sound, Theorem, Unchanged};
 ghost use Rattle.safety.specs.Safe.{Keeps};
-ghost use Rattle.safety.specs.Promise.{Apart, Standing, Still, Shown-when, Way-before, No-orphan, Noted, Comes-to-show, Set-comes-to-show, Lets-go, All-let-go, Unchanged, Either-order, Each-once, Falls-soon, Beyond-same, Alone, Enters};
 
-pub fn keeps() -> u8
+pub mod strangers;
+
+// After every lawful row of events of a sound plan that there is room for, all promises hold: the main one is that no section has two trains.
+pub fn theorem_holds() -> u8
+    ensures { λ _. ⌜ Theorem ⌝ }
+{
+    0
+}
+
+// Each event that can happen keeps the invariant from which the theorem follows.
+pub fn keeps_holds() -> u8
     ensures { λ _. ⌜ Keeps ⌝ }
 {
     0
 }
 
-pub fn apart_holds() -> u8
-    ensures { λ _. ⌜ Apart ⌝ }
-{
-    0
-}
-
-pub fn standing_holds() -> u8
-    ensures { λ _. ⌜ Standing ⌝ }
-{
-    0
-}
-
-pub fn still_holds() -> u8
-    ensures { λ _. ⌜ Still ⌝ }
-{
-    0
-}
-
-pub fn shown_when_holds() -> u8
-    ensures { λ _. ⌜ Shown-when ⌝ }
-{
-    0
-}
-
-pub fn way_before_holds() -> u8
-    ensures { λ _. ⌜ Way-before ⌝ }
-{
-    0
-}
-
-pub fn no_orphan_holds() -> u8
-    ensures { λ _. ⌜ No-orphan ⌝ }
-{
-    0
-}
-
-pub fn noted_holds() -> u8
-    ensures { λ _. ⌜ Noted ⌝ }
-{
-    0
-}
-
-pub fn comes_to_show_holds() -> u8
-    ensures { λ _. ⌜ Comes-to-show ⌝ }
-{
-    0
-}
-
-pub fn set_comes_to_show_holds() -> u8
-    ensures { λ _. ⌜ Set-comes-to-show ⌝ }
-{
-    0
-}
-
-pub fn lets_go_holds() -> u8
-    ensures { λ _. ⌜ Lets-go ⌝ }
-{
-    0
-}
-
-pub fn all_let_go_holds() -> u8
-    ensures { λ _. ⌜ All-let-go ⌝ }
-{
-    0
-}
-
+// A request that is not granted changes nothing.
 pub fn unchanged_holds() -> u8
     ensures { λ _. ⌜ Unchanged ⌝ }
 {
     0
 }
 
+// Routes that share no section and no point can be asked for in either order, with the same answers and the same state in the end.
 pub fn either_order_holds() -> u8
     ensures { λ _. ⌜ Either-order ⌝ }
 {
     0
 }
 
-pub fn each_once_holds() -> u8
-    ensures { λ _. ⌜ Each-once ⌝ }
+// In a sound plan, routes that share no section and no needed point are such.
+pub fn strangers_in_sound_holds() -> u8
+    ensures { λ _. ⌜ Strangers-in-sound ⌝ }
 {
     0
 }
 
-pub fn falls_soon_holds() -> u8
-    ensures { λ _. ⌜ Falls-soon ⌝ }
+// It is decided of every plan whether it is sound.
+pub fn judged_holds() -> u8
+    ensures { λ _. ⌜ Judged ⌝ }
 {
     0
 }
 
-pub fn beyond_same_holds() -> u8
-    ensures { λ _. ⌜ Beyond-same ⌝ }
+// No row of events leads to a state that holds anything beyond the room for 64 sections, 64 routes and 32 points.
+pub fn in_room_holds() -> u8
+    ensures { λ _. ⌜ Always-in-room ⌝ }
 {
     0
 }
 
-pub fn alone_holds() -> u8
-    ensures { λ _. ⌜ Alone ⌝ }
+// A state that is kept in arrays of 64, 64 and 32 holds nothing beyond that room.
+pub fn arrays_in_room_holds() -> u8
+    ensures { λ _. ⌜ Arrays-in-room ⌝ }
 {
     0
 }
 
-pub fn enters_holds() -> u8
-    ensures { λ _. ⌜ Enters ⌝ }
+// The guards in the definitions say what the rules say: nothing of a sound plan is cut off, and a section is freed only if none before it is locked for its route.
+pub fn agrees_holds() -> u8
+    ensures { λ _. ⌜ Agrees ⌝ }
 {
     0
 }

@@ -1,5 +1,5 @@
+use Rattle.safety.proofs.Order.{either-order}
 use Rattle.safety.proofs.either_order_holds.Needs as need
-use Rattle.safety.proofs.Order as proof
 
 pub returns : need.returns
-returns c = proof.either-order
+returns c = either-order

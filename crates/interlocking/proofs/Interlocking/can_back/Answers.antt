@@ -1,17 +1,13 @@
-use mathlib.Core.Path.{_≡_, refl, _∙_, ap}
-use Rattle.plan.specs.Numbers.{plan-in, route-at}
-use Rattle.interlocking.specs.State.{can-fall, is-used, all-vacant}
-use Rattle.interlocking.specs.Says.{state-of, marks}
-use Rattle.interlocking.proofs.Does.{back-in, back-out}
+use mathlib.Core.Path.{_∙_, ap}
+use Rattle.plan.specs.Plan.{marks}
+use Rattle.plan.specs.View.{plan-of}
+use Rattle.interlocking.specs.State.{all-vacant}
+use Rattle.interlocking.specs.Says.{state-of}
+use Rattle.interlocking.proofs.Does.{back-is}
 use Rattle.interlocking.proofs.Interlocking.can_back.Needs as need
 
-pub returns-then-r-routes : need.returns-then-r-routes
-returns-then-r-routes c =
-    back-in (plan-in (c .args .plan .now)) (state-of (c .args .self .now)) (marks (c .args .seen .now)) (marks (c .args .turned .now)) (c .args .r) _ _ _ _ _
-    (c .routes .ensures .count) (c .if-r-routes .taken) (c .route .ensures .same)
-    (c .can-fall .ensures ∙ ap can-fall (c .stage-of-stage .ensures)) (c .is-used .ensures ∙ ap is-used (c .stage-of-stage .ensures))
-    (c .all-vacant .ensures ∙ ap (all-vacant (marks (c .args .seen .now))) (c .path-path .ensures))
-
-pub returns-else-r-routes : need.returns-else-r-routes
-returns-else-r-routes c =
-    back-out (plan-in (c .args .plan .now)) (state-of (c .args .self .now)) (marks (c .args .seen .now)) (marks (c .args .turned .now)) (c .args .r) _ (c .routes .ensures .count) (c .if-r-routes .left)
+pub returns : need.returns
+returns c =
+    back-is (plan-of (c .args .plan)) (state-of (c .args .self .now)) (marks (c .args .occupied .now)) (marks (c .args .lies .now)) (c .args .r) _ _ _ _ _
+    (c .routes .ensures) (c .route .ensures) (c .stage-of .ensures)
+    (c .all-vacant-vacant .ensures ∙ ap (all-vacant (marks (c .args .occupied .now))) (c .path .ensures)) (c .may-take-back .ensures)

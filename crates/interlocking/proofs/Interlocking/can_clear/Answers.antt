@@ -1,16 +1,10 @@
-use mathlib.Core.Path.{_≡_, refl, _∙_, ap}
-use Rattle.plan.specs.Numbers.{plan-in, route-at}
-use Rattle.interlocking.specs.State.{is-set}
-use Rattle.interlocking.specs.Says.{state-of, marks}
-use Rattle.interlocking.proofs.Does.{clear-in, clear-out}
+use Rattle.plan.specs.Plan.{marks}
+use Rattle.plan.specs.View.{plan-of}
+use Rattle.interlocking.specs.Says.{state-of}
+use Rattle.interlocking.proofs.Does.{clear-is}
 use Rattle.interlocking.proofs.Interlocking.can_clear.Needs as need
 
-pub returns-then-r-routes : need.returns-then-r-routes
-returns-then-r-routes c =
-    clear-in (plan-in (c .args .plan .now)) (state-of (c .args .self .now)) (marks (c .args .seen .now)) (marks (c .args .turned .now)) (c .args .r) _ _ _ _ _
-    (c .routes .ensures .count) (c .if-r-routes .taken) (c .route-part .ensures .same)
-    (c .is-set .ensures ∙ ap is-set (c .stage-of .ensures)) (c .met .ensures) (c .met-then-r-routes .ensures)
-
-pub returns-else-r-routes : need.returns-else-r-routes
-returns-else-r-routes c =
-    clear-out (plan-in (c .args .plan .now)) (state-of (c .args .self .now)) (marks (c .args .seen .now)) (marks (c .args .turned .now)) (c .args .r) _ (c .routes .ensures .count) (c .if-r-routes .left)
+pub returns : need.returns
+returns c =
+    clear-is (plan-of (c .args .plan)) (state-of (c .args .self .now)) (marks (c .args .occupied .now)) (marks (c .args .lies .now)) (c .args .r) _ _ _ _ _ _
+    (c .routes .ensures) (c .route-route .ensures) (c .stage-of .ensures) (c .met-lie .ensures) (c .met-wanted .ensures) (c .may-show .ensures)

@@ -1,0 +1,5 @@
+pub mod Filled
+pub mod Numbered
+pub mod Room
+pub mod Refuses
+pub mod Performed

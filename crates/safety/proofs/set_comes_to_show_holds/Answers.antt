@@ -1,5 +1,0 @@
-use Rattle.safety.proofs.set_comes_to_show_holds.Needs as need
-use Rattle.safety.proofs.Shows as proof
-
-pub returns : need.returns
-returns c = proof.set-comes-to-show

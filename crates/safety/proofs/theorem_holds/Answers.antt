@@ -1,0 +1,5 @@
+use Rattle.safety.proofs.Theorem.{theorem}
+use Rattle.safety.proofs.theorem_holds.Needs as need
+
+pub returns : need.returns
+returns c = theorem
