@@ -6,8 +6,8 @@ use Prim.Native.Nat.{ℕ, _≤_, _<_}
 use native.Mathlib.Omega.{arith}
 use lib.ListN.{length, getD}
 use Rattle.std.specs.declared.option.Option.{Option}
-use Rattle.std.specs.declared.option.Option.the-variants.{Some, None}
-use Rattle.std.specs.declared.result.Result.the-variants.{Ok, Err}
+use Rattle.std.specs.declared.option.Option.the-variants.{None}
+use Rattle.std.specs.declared.result.Result.the-variants.{Ok}
 use Rattle.plan.specs.Numbers.{plan-in}
 use Rattle.plan.specs.Plan.{pick, Plan, Positions, marks}
 use Rattle.interlocking.specs.State.{State, Occupancy, does, done, fitted, acts}
@@ -16,7 +16,7 @@ use Rattle.interlocking.specs.declared.Interlocking.{Interlocking}
 use Rattle.interlocking.specs.declared.Answer.{Answer}
 use Rattle.interlocking.specs.declared.Request.{Request}
 use Rattle.memory.specs.Memory.{state-in, Written}
-use Rattle.memory.specs.Entry.{marked, Stored, Performs, Act-says}
+use Rattle.memory.specs.Entry.{Stored, Performs, Act-says}
 use Rattle.memory.specs.declared.Refusal.{Refusal}
 use Rattle.memory.proofs.Numbered.{Whole, stored-from, stored-same}
 use Rattle.memory.proofs.Room.{fit-acts, fit-in}

@@ -1,8 +1,8 @@
 -- What is not refused is as it should be.
-use mathlib.Core.Path.{_≡_, refl, sym, _∙_, ap}
+use mathlib.Core.Path.{_≡_, refl, _∙_, ap}
 use mathlib.Core.Bool.{Bool, true, false}
 use mathlib.Core.List.{List}
-use Prim.Native.Nat.{ℕ, _≤_, _<_}
+use Prim.Native.Nat.{ℕ, _<_}
 use native.Mathlib.Omega.{arith}
 use lib.Dec.{eqb}
 use lib.ListN.{length, getD}
@@ -10,7 +10,7 @@ use Rattle.std.specs.declared.option.Option.{Option}
 use Rattle.std.specs.declared.option.Option.the-variants.{Some, None}
 use Rattle.std.specs.Options.{isSome}
 use Rattle.plan.specs.declared.Refusal.{Refusal as Plan-refusal}
-use Rattle.plan.specs.Numbers.{refused, routes-from, whole}
+use Rattle.plan.specs.Numbers.{refused}
 use Rattle.plan.proofs.Formed.{formed}
 use Rattle.memory.specs.Entry.{bad-lent, bad-asked, lent-after, asked-after, lent-refusal, refusal}
 use Rattle.memory.specs.declared.Lent.{Lent}

@@ -1,11 +1,11 @@
 -- The time that is left has room in the memory.
-use mathlib.Core.Path.{_≡_, refl, sym, _∙_, ap}
+use mathlib.Core.Path.{_≡_, refl}
 use mathlib.Core.Bool.{Bool, true, false}
 use mathlib.Core.List.{List}
 use Prim.Native.Nat.{ℕ, zero, suc, _+_, _-_, _≤_, _<_}
 use native.Mathlib.Omega.{arith}
 use lib.Dec.{ltb, eqb, lit<}
-use lib.ListN.{length, getD}
+use lib.ListN.{getD}
 use Rattle.std.specs.Options.{isSome}
 use Rattle.plan.specs.Plan.{pick, Plan, Positions, route, last-of}
 use Rattle.plan.specs.Numbers.{plan-in, refused}

@@ -1,7 +1,6 @@
 // The entry: what is lent as numbers is looked at, read, acted on and written back.
 ghost use mathlib.Core.Path.{_≡_};
-ghost use mathlib.Core.Bool.{Bool};
-ghost use lib.ListN.{length, getD};
+ghost use lib.ListN.{length};
 ghost use Rattle.plan.specs.Numbers.{plan-in};
 ghost use Rattle.plan.specs.Shape.{all-at-most};
 ghost use Rattle.plan.specs.View.{plan-of};

@@ -28,3 +28,4 @@ mod LetsGo
 pub mod Order
 pub mod Guards
 pub mod Theorem
+pub mod Promised

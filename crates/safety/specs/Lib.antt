@@ -1,3 +1,4 @@
 pub mod Promise
+pub mod Promised
 pub mod Safe
 pub mod Sides

@@ -3,6 +3,7 @@ ghost use Rattle.soundness.specs.Promise.{Judged};
 ghost use Rattle.safety.specs.Promise.{Agrees, Always-in-room, Arrays-in-room, Either-order, Strangers-in-sound, Theorem, Unchanged};
 ghost use Rattle.safety.specs.Safe.{Keeps};
 
+pub mod run;
 pub mod strangers;
 
 // After every lawful row of events of a sound plan that there is room for, all promises hold: the main one is that no section has two trains.

@@ -1,5 +1,5 @@
-use mathlib.Core.Path.{_≡_, refl, _∙_}
-use Prim.Native.Nat.{ℕ, _<_, _≤_}
+use mathlib.Core.Path.{_≡_, _∙_}
+use Prim.Native.Nat.{ℕ, _<_}
 use native.Mathlib.Omega.{arith}
 use lib.ListN.{length, getD, replicate, length-set}
 use Rattle.std.proofs.shelf.Lists.{length-replicate}
@@ -12,9 +12,10 @@ loop-i-holds c = (upto-none (λ x o. getD (c .args .memory .now) x 0) 0 (replica
 
 pub loop-i-again : need.loop-i-again
 loop-i-again c =
-    let l : c .loop-i .i < length (c .loop-i .locks) = omega arith in
-    (upto-more (λ x o. getD (c .args .memory .now) x 0) 0 (replicate 64 0) (c .loop-i .locks) (c .loop-i .i) _ l (c .loop-i .inv .0) (c .number-at .ensures),
-    length-set _ _ _ ∙ c .loop-i .inv .1)
+    let l : c .loop-i .i < length (c .loop-i .locks) = omega arith in (
+      upto-more (λ x o. getD (c .args .memory .now) x 0) 0 (replicate 64 0) (c .loop-i .locks) (c .loop-i .i) _ l (c .loop-i .inv .0) (c .number-at .ensures),
+      length-set _ _ _ ∙ c .loop-i .inv .1,
+    )
 
 pub returns : need.returns
 returns c =

@@ -1,6 +1,6 @@
-use mathlib.Core.Path.{_≡_, refl, _∙_, ap}
+use mathlib.Core.Path.{_≡_, _∙_, ap}
 use mathlib.Core.Bool.{false}
-use Prim.Native.Nat.{_<_, _≤_}
+use Prim.Native.Nat.{_<_}
 use native.Mathlib.Omega.{arith}
 use lib.ListN.{length, getD, replicate, length-set}
 use Rattle.std.proofs.shelf.Lists.{length-replicate}
@@ -14,10 +14,11 @@ loop-i-holds g c = (upto-none (λ x o. bitb (getD (c .args .numbers .now) x 0)) 
 
 pub loop-i-again : need.loop-i-again
 loop-i-again g c =
-    let l : c .loop-i .i < length (c .loop-i .marks) = omega arith in
-    (upto-more (λ x o. bitb (getD (c .args .numbers .now) x 0)) false (replicate (g .N) false) (c .loop-i .marks) (c .loop-i .i) _ l (c .loop-i .inv .0)
-    (ap bitb (c .byte-at .ensures)),
-    length-set _ _ _ ∙ c .loop-i .inv .1)
+    let l : c .loop-i .i < length (c .loop-i .marks) = omega arith in (
+      upto-more (λ x o. bitb (getD (c .args .numbers .now) x 0)) false (replicate (g .N) false) (c .loop-i .marks) (c .loop-i .i) _ l (c .loop-i .inv .0)
+          (ap bitb (c .byte-at .ensures)),
+      length-set _ _ _ ∙ c .loop-i .inv .1,
+    )
 
 pub returns : need.returns
 returns g c =

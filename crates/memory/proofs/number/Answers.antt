@@ -1,5 +1,4 @@
-use mathlib.Core.Path.{_≡_, sym, _∙_, ap}
-use Prim.Native.Nat.{_-_}
+use mathlib.Core.Path.{sym, _∙_, ap}
 use Rattle.interlocking.specs.Says.{state-of}
 use Rattle.memory.specs.Memory.{remarked, stage-number}
 use Rattle.memory.proofs.Numbered.{number-lock, number-passed, number-stage, number-wanted, number-past}

@@ -1,5 +1,5 @@
-use mathlib.Core.Path.{_≡_, refl, _∙_, ap}
-use Prim.Native.Nat.{_+_, _<_, _≤_}
+use mathlib.Core.Path.{_≡_, _∙_, ap}
+use Prim.Native.Nat.{_+_, _<_}
 use native.Mathlib.Omega.{arith}
 use lib.ListN.{length, getD, replicate, length-set}
 use Rattle.std.proofs.shelf.Lists.{length-replicate}
@@ -14,10 +14,11 @@ loop-i-holds c = (upto-none (λ x o. stage-in (getD (c .args .memory .now) (128 
 
 pub loop-i-again : need.loop-i-again
 loop-i-again c =
-    let l : c .loop-i .i < length (c .loop-i .stages) = omega arith in
-    (upto-more (λ x o. stage-in (getD (c .args .memory .now) (128 + x) 0)) Idle (replicate 64 Idle) (c .loop-i .stages) (c .loop-i .i) _ l (c .loop-i .inv .0)
-    (c .stage .ensures ∙ ap stage-in (c .number-at .ensures)),
-    length-set _ _ _ ∙ c .loop-i .inv .1)
+    let l : c .loop-i .i < length (c .loop-i .stages) = omega arith in (
+      upto-more (λ x o. stage-in (getD (c .args .memory .now) (128 + x) 0)) Idle (replicate 64 Idle) (c .loop-i .stages) (c .loop-i .i) _ l (c .loop-i .inv .0)
+          (c .stage .ensures ∙ ap stage-in (c .number-at .ensures)),
+      length-set _ _ _ ∙ c .loop-i .inv .1,
+    )
 
 pub returns : need.returns
 returns c =

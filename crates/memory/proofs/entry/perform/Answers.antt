@@ -1,11 +1,10 @@
 use borrow.Author.Needs.{needs}
-use Rattle.plan.specs.Numbers.{plan-in}
 use Rattle.plan.specs.View.{plan-of}
 use Rattle.interlocking.specs.Says.{request-of}
 use Rattle.memory.specs.Entry.{marked}
 use Rattle.memory.proofs.Filled.{marks-are}
 use Rattle.memory.proofs.Room.{time-in}
-use Rattle.memory.proofs.Performed.{Answered, answered, performed, not-performed}
+use Rattle.memory.proofs.Performed.{answered, performed, not-performed}
 use Rattle.memory.proofs.entry.perform.Needs as need
 
 pub returns-then-answer : need.returns-then-answer

@@ -1,0 +1,227 @@
+-- From one train written, and from what is noted, to one step of the world.
+use mathlib.Core.Path.{_≡_, refl, sym, _∙_, ap, fun-ext}
+use mathlib.Core.Bool.{Bool, true, false, _&&_, _||_, not}
+use mathlib.Core.List.{List, [], _∷_}
+use mathlib.Core.Logic.{_≢_}
+use Prim.Native.Nat.{ℕ, zero, suc, _+_, _≤_, _<_}
+use native.Mathlib.Omega.{arith}
+use borrow.Author.Tests.{ltb-true, eqb-true, eqb-false}
+use lib.Dec.{ltb, leb, eqb}
+use lib.ListN.{length, getD, set}
+use Rattle.std.specs.Of.Vec.{vec-items, vec-len}
+use Rattle.std.specs.Changed.{with-item}
+use Rattle.std.proofs.shelf.Lists.{getD-set-same, getD-set-other}
+use Rattle.plan.specs.Plan.{pick, Plan, Positions, beyond, marks}
+use Rattle.interlocking.specs.State.{State, Occupancy, does, acts}
+use Rattle.interlocking.specs.Says.{state-of, Says, request-of, kind-of, which-of}
+use Rattle.interlocking.specs.declared.Answer.{Answer}
+use Rattle.interlocking.specs.declared.Request.{Request}
+use Rattle.interlocking.specs.declared.Request.the-variants.{Ask, Clear, Back, Free, Tick}
+use Rattle.interlocking.specs.declared.Interlocking.{Interlocking}
+use Rattle.occupancy.specs.Notes.{notes}
+use Rattle.model.specs.World.{Train, World, occupied, front, without-last, reversed, empty, can, next, with-train, trains-after, lies-after, state-after}
+use Rattle.model.specs.Held.{train-of, trains-of, world-of, all-inside, trains-inside, occupied-in, within}
+use Rattle.model.specs.Steps.{happens, Told, Sound, Moved, Noted}
+use Rattle.model.specs.declared.Event.{Event}
+use Rattle.model.specs.declared.Event.the-variants.{Asked, Turns, Goes, Draws, Reverses, Comes, Leaves}
+use Rattle.model.specs.declared.train.Train.{Train as Held-train}
+use Rattle.model.specs.declared.world.World.{World as Held-world}
+use Rattle.model.proofs.Bodies.{cons-inside, cut-inside, reversed-inside, none-inside}
+use Rattle.model.proofs.Trains.{trains-set, with-same, inside-at, inside-set, vacant-outside}
+
+-- what can happen says
+first : (a b : Bool) → a && b ≡ true → a ≡ true
+first a b h = grind arith
+
+pub go-under : (p : Plan) (n : ℕ) (w : World) (i : ℕ) → can p n w (Goes i) ≡ true → i < n
+unfolding can
+go-under p n w i h = ltb-true i n (first _ _ h)
+
+pub draw-under : (p : Plan) (n : ℕ) (w : World) (i : ℕ) → can p n w (Draws i) ≡ true → i < n
+unfolding can
+draw-under p n w i h = ltb-true i n (first _ _ h)
+
+pub reverse-under : (p : Plan) (n : ℕ) (w : World) (i : ℕ) → can p n w (Reverses i) ≡ true → i < n
+unfolding can
+reverse-under p n w i h = ltb-true i n (first _ _ h)
+
+pub come-under : (p : Plan) (n : ℕ) (w : World) (i : ℕ) (up : Bool) (x : ℕ) → can p n w (Comes i up x) ≡ true → i < n
+unfolding can
+come-under p n w i up x h = ltb-true i n (first _ _ h)
+
+pub leave-under : (p : Plan) (n : ℕ) (w : World) (i : ℕ) → can p n w (Leaves i) ≡ true → i < n
+unfolding can
+leave-under p n w i h = ltb-true i n (first _ _ h)
+
+pub turn-under : (p : Plan) (n : ℕ) (w : World) (q : ℕ) → can p n w (Turns q) ≡ true → q < p .points
+unfolding can
+turn-under p n w q h = ltb-true q (p .points) h
+
+third : (a b c d : Bool) → a && (b && (c && d)) ≡ true → c ≡ true
+third a b c d h = grind arith
+
+second : (a b c : Bool) → a && (b && c) ≡ true → b ≡ true
+second a b c h = grind arith
+
+pub go-inside : (p : Plan) (n : ℕ) (w : World) (i : ℕ) → can p n w (Goes i) ≡ true → beyond p (w .lies) (w .trains i .up) (front (w .trains i .body)) < p .sections
+unfolding can
+go-inside p n w i h = ltb-true _ (p .sections) (third (ltb i n) _ _ _ h)
+
+pub come-nowhere : (p : Plan) (n : ℕ) (w : World) (i : ℕ) (up : Bool) (x : ℕ) → can p n w (Comes i up x) ≡ true → empty (w .trains i .body) ≡ true
+unfolding can
+come-nowhere p n w i up x h = second (ltb i n) _ _ h
+
+pub come-section : (p : Plan) (n : ℕ) (w : World) (i : ℕ) (up : Bool) (x : ℕ) → can p n w (Comes i up x) ≡ true → x < p .sections
+unfolding can
+come-section p n w i up x h = ltb-true x (p .sections) (third (ltb i n) (empty (w .trains i .body)) _ _ h)
+
+pub small-front : (p : Plan) (n : ℕ) (w : World) (i : ℕ) → can p n w (Goes i) ≡ true → p .sections ≤ 64 → beyond p (w .lies) (w .trains i .up) (front (w .trains i .body)) < 64
+small-front p n w i h l = let k = go-inside p n w i h in omega arith
+
+pub small-section : (p : Plan) (n : ℕ) (w : World) (i : ℕ) (up : Bool) (x : ℕ) → can p n w (Comes i up x) ≡ true → p .sections ≤ 64 → x < 64
+small-section p n w i up x h l = let k = come-section p n w i up x h in omega arith
+
+pub few-turn : (p : Plan) (n : ℕ) (w : World) (q : ℕ) → can p n w (Turns q) ≡ true → p .points ≤ 32 → q < 32
+few-turn p n w q h l = let k = turn-under p n w q h in omega arith
+
+-- one train written
+abbrev pub written : Held-world → ℕ → Held-train → Held-world
+written w i t = record { interlocking = w .interlocking; lies = w .lies; trains = with-item (w .trains) i t }
+
+pub moved : (w : Held-world) (i : ℕ) (t : Held-train) (r : Train) → i < vec-len (w .trains) → train-of t ≡ r → Moved w (written w i t) i r
+moved w i t r l f =
+    let m = w .trains .ok .0 in
+    record {
+      interlocking = refl;
+      lies = refl;
+      trains = trains-set (vec-items (w .trains)) _ i t r refl f (omega arith);
+      count = refl;
+      inside = λ h k. inside-set (vec-items (w .trains)) _ i t r refl f h k;
+    }
+
+-- worlds with equal parts
+pub same-world : (h g : State) (t u : Positions) (a b : ℕ → Train) → h ≡ g → t ≡ u → a ≡ b →
+    _≡_ {A = World} (record { interlocking = h; lies = t; trains = a }) (record { interlocking = g; lies = u; trains = b })
+same-world h g t u a b e f k = λ i. record { interlocking = e i; lies = f i; trains = k i }
+
+-- what is not done
+pub told-not : (p : Plan) (n : ℕ) (w : World) (e : Event) (b : Bool) → b ≡ happens p n w e → b ≡ false → Told p n w w e false
+told-not p n w e b h f = record { told = sym f ∙ h; done = λ z. absurd (grind arith); not-done = λ z. refl }
+
+pub told-done : (p : Plan) (n : ℕ) (w v : World) (e : Event) (b : Bool) → b ≡ happens p n w e → b ≡ true → v ≡ next p n w e → Told p n w v e true
+told-done p n w v e b h f k = record { told = sym f ∙ h; done = λ z. k; not-done = λ z. absurd (grind arith) }
+
+pub sound-same : (w : Held-world) → trains-inside (vec-items (w .trains)) ≡ true → Sound w w
+sound-same w h = record { count = refl; inside = h }
+
+pub step-moved : (p : Plan) (old new : Held-world) (i : ℕ) (r : Train) (e : Event) → Moved old new i r →
+    state-after p (vec-len (old .trains)) (world-of old) e ≡ state-of (old .interlocking) → lies-after (world-of old) e ≡ marks (old .lies) →
+    trains-after p (world-of old) e ≡ with-train (trains-of (vec-items (old .trains))) i (r .up) (r .body) →
+    world-of new ≡ next p (vec-len (old .trains)) (world-of old) e
+step-moved p old new i r e m a b d =
+    same-world _ _ _ _ _ _ (ap state-of (m .interlocking) ∙ sym a) (ap marks (m .lies) ∙ sym b) (m .trains ∙ sym d)
+
+pub step-noted : (p : Plan) (old mid new : Held-world) (i : ℕ) (r : Train) (e : Event) → Moved old mid i r → Noted p mid new →
+    state-after p (vec-len (old .trains)) (world-of old) e ≡ notes p (state-of (old .interlocking)) (occupied (vec-len (old .trains)) (trains-after p (world-of old) e)) →
+    lies-after (world-of old) e ≡ marks (old .lies) →
+    trains-after p (world-of old) e ≡ with-train (trains-of (vec-items (old .trains))) i (r .up) (r .body) →
+    world-of new ≡ next p (vec-len (old .trains)) (world-of old) e
+step-noted p old mid new i r e m n a b d =
+    same-world _ _ _ _ _ _
+    (n .interlocking ∙ ap (λ (h : Interlocking). notes p (state-of h) (occupied-in mid)) (m .interlocking)
+    ∙ ap (λ (k : ℕ). notes p (state-of (old .interlocking)) (occupied k (trains-of (vec-items (mid .trains))))) (m .count)
+    ∙ ap (λ (ts : ℕ → Train). notes p (state-of (old .interlocking)) (occupied (vec-len (old .trains)) ts)) (m .trains ∙ sym d) ∙ sym a)
+    (ap marks (n .lies ∙ m .lies) ∙ sym b) (ap (λ v. trains-of (vec-items v)) (n .trains) ∙ m .trains ∙ sym d)
+
+pub step-failed : (old new : Held-world) (i : ℕ) (r : Train) → Moved old new i r → r ≡ trains-of (vec-items (old .trains)) i → world-of new ≡ world-of old
+step-failed old new i r m e =
+    same-world _ _ _ _ _ _ (ap state-of (m .interlocking)) (ap marks (m .lies))
+    (m .trains ∙ ap (λ (z : Train). with-train (trains-of (vec-items (old .trains))) i (z .up) (z .body)) e ∙ with-same (trains-of (vec-items (old .trains))) i)
+
+pub sound-moved : (old new : Held-world) (i : ℕ) (r : Train) → Moved old new i r → trains-inside (vec-items (old .trains)) ≡ true → all-inside (r .body) ≡ true → Sound old new
+sound-moved old new i r m h k = record { count = m .count; inside = m .inside h k }
+
+pub sound-noted : (p : Plan) (old mid new : Held-world) → Sound old mid → Noted p mid new → Sound old new
+sound-noted p old mid new s n =
+    record { count = ap (λ v. vec-len v) (n .trains) ∙ s .count; inside = ap (λ v. trains-inside (vec-items v)) (n .trains) ∙ s .inside }
+
+-- a train as it was, of trains in sections below 64
+pub kept-inside : (ts : List Held-train) (i : ℕ) (r : Train) → r ≡ trains-of ts i → trains-inside ts ≡ true → all-inside (r .body) ≡ true
+kept-inside ts i r e h = ap (λ (z : Train). all-inside (z .body)) e ∙ inside-at ts i h
+
+-- what the trains become
+pub gone : (p : Plan) (l : Positions) (t s : Train) (r u : Train) (x : ℕ) → t ≡ r → s ≡ r → x ≡ beyond p l (t .up) (front (t .body)) → u ≡ record { up = s .up; body = x ∷ s .body } →
+    u ≡ record { up = r .up; body = beyond p l (r .up) (front (r .body)) ∷ r .body }
+gone p l t s r u x e f g h =
+    h ∙ ap (λ (y : ℕ). record { up = s .up; body = y ∷ s .body }) (g ∙ ap (λ (z : Train). beyond p l (z .up) (front (z .body))) e)
+    ∙ ap (λ (z : Train). record { up = z .up; body = beyond p l (r .up) (front (r .body)) ∷ z .body }) f
+
+pub drew : (t r u : Train) → t ≡ r → u ≡ record { up = t .up; body = without-last (t .body) } → u ≡ record { up = r .up; body = without-last (r .body) }
+drew t r u e h = h ∙ ap (λ (z : Train). record { up = z .up; body = without-last (z .body) }) e
+
+pub turned-round : (t r u : Train) → t ≡ r → u ≡ record { up = not (t .up); body = reversed (t .body) } → u ≡ record { up = not (r .up); body = reversed (r .body) }
+turned-round t r u e h = h ∙ ap (λ (z : Train). record { up = not (z .up); body = reversed (z .body) }) e
+
+pub went : (t r u : Train) → t ≡ r → u ≡ record { up = t .up; body = [] } → u ≡ record { up = r .up; body = [] }
+went t r u e h = h ∙ ap (λ (z : Train). record { up = z .up; body = [] }) e
+
+-- a point that turned
+pub turned-marks : (bs : List Bool) (q : ℕ) (b : Bool) (f : Positions) → q < length bs → b ≡ f q → marks (set bs q b) ≡ (λ k. pick (eqb k q) (f k) (marks bs k))
+turned-marks bs q b f l e = fun-ext (λ k. go k (eqb k q) refl)
+  where
+    go : (k : ℕ) (d : Bool) → eqb k q ≡ d → marks (set bs q b) k ≡ pick d (f k) (marks bs k)
+    go k true h =
+        let s : k ≡ q = eqb-true k q h in
+        ap (λ (z : ℕ). getD (set bs q b) z false) s ∙ getD-set-same bs q b false l ∙ e ∙ ap f (sym s)
+    go k false h = getD-set-other bs q k b false (eqb-false k q h)
+
+pub step-turned : (p : Plan) (n : ℕ) (old new : Held-world) (q : ℕ) → new .interlocking ≡ old .interlocking → new .trains ≡ old .trains →
+    marks (new .lies) ≡ (λ k. pick (eqb k q) (state-of (old .interlocking) .wanted k) (marks (old .lies) k)) → world-of new ≡ next p n (world-of old) (Turns q)
+unfolding state-after lies-after trains-after
+step-turned p n old new q a b d = same-world _ _ _ _ _ _ (ap state-of a) d (ap (λ v. trains-of (vec-items v)) b)
+
+-- a request
+pub number-of-request : (a : Request) → request-of (kind-of a) (which-of a) ≡ a
+number-of-request (Ask r) = refl
+number-of-request (Clear r) = refl
+number-of-request (Back r) = refl
+number-of-request (Free x) = refl
+number-of-request Tick = refl
+
+pub same-request : (k n : ℕ) (a : Request) → k ≡ kind-of a → n ≡ which-of a → request-of k n ≡ a
+same-request k n a e f = ap (λ (z : ℕ). request-of z n) e ∙ ap (request-of (kind-of a)) f ∙ number-of-request a
+
+pub told-asked : (p : Plan) (n : ℕ) (w v : Held-world) (a b : Request) (s : Occupancy) (left : Interlocking) (r : Answer) →
+    Says p (w .interlocking) s (marks (w .lies)) b left r → b ≡ a → s ≡ occupied n (trains-of (vec-items (w .trains))) →
+    v .interlocking ≡ left → v .lies ≡ w .lies → v .trains ≡ w .trains → Told p n (world-of w) (world-of v) (Asked a) (r .done)
+unfolding happens state-after lies-after trains-after
+told-asked p n w v a b s left r h e f x y z =
+    let d : r .done ≡ does p (state-of (w .interlocking)) (occupied n (trains-of (vec-items (w .trains)))) (marks (w .lies)) a =
+        h .done? ∙ ap (λ (q : Occupancy). does p (state-of (w .interlocking)) q (marks (w .lies)) b) f ∙ ap (does p (state-of (w .interlocking)) (occupied n (trains-of (vec-items (w .trains)))) (marks (w .lies))) e
+    in
+    record {
+      told = d;
+      done = λ _. same-world _ _ _ _ _ _
+        (ap state-of x ∙ h .state ∙ ap (λ (q : Occupancy). acts p (state-of (w .interlocking)) q (marks (w .lies)) b) f
+        ∙ ap (acts p (state-of (w .interlocking)) (occupied n (trains-of (vec-items (w .trains)))) (marks (w .lies))) e)
+        (ap marks y) (ap (λ u. trains-of (vec-items u)) z);
+      not-done = λ k. same-world _ _ _ _ _ _ (ap state-of (x ∙ h .unchanged (sym (h .done?) ∙ k))) (ap marks y) (ap (λ u. trains-of (vec-items u)) z);
+    }
+
+-- what is seen in 64 places is all that is occupied
+pub seen-all : (ts : List Held-train) (n : ℕ) → trains-inside ts ≡ true → within (occupied n (trains-of ts)) ≡ occupied n (trains-of ts)
+seen-all ts n h = fun-ext (λ x. go x (ltb x 64) refl)
+  where
+    go : (x : ℕ) (b : Bool) → ltb x 64 ≡ b → b && occupied n (trains-of ts) x ≡ occupied n (trains-of ts) x
+    go x true e = refl
+    go x false e = sym (vacant-outside ts n x h (grind arith))
+
+pub happens-can : (p : Plan) (n : ℕ) (w : World) (e : Event) → happens p n w e ≡ true → can p n w e ≡ true
+unfolding happens can
+happens-can p n w (Asked a) h = refl
+happens-can p n w (Turns q) h = h
+happens-can p n w (Goes i) h = h
+happens-can p n w (Draws i) h = h
+happens-can p n w (Reverses i) h = h
+happens-can p n w (Comes i up x) h = h
+happens-can p n w (Leaves i) h = h

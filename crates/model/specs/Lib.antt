@@ -1,0 +1,4 @@
+pub mod World
+pub mod Held
+pub mod Steps
+pub mod Ran

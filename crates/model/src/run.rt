@@ -1,0 +1,110 @@
+// A station from its start, one event after the other.
+ghost use lib.ListN.{getD, length};
+ghost use mathlib.Core.Bool.{true};
+ghost use mathlib.Core.Path.{_≡_};
+ghost use Rattle.model.specs.Held.{trains-of, world-of};
+ghost use Rattle.model.specs.Ran.{Nowhere, Ran};
+ghost use Rattle.model.specs.Steps.{Told};
+ghost use Rattle.model.specs.World.{empty-station};
+ghost use Rattle.plan.specs.Plan.{marks};
+ghost use Rattle.plan.specs.View.{plan-of};
+ghost use Rattle.std.specs.Of.Vec.{vec-items};
+ghost use Rattle.std.specs.Results.{Cases};
+ghost use Rattle.std.specs.Vec.{made};
+use crate::Event;
+use crate::station::Station;
+use crate::train::Train;
+use crate::world::World;
+use interlocking::Interlocking;
+use plan::view::Plan;
+use std::alloc::AllocError;
+use std::alloc::Global;
+
+// What a run leaves: the station, and for each event whether it was done.
+#[derive(Drop)]
+pub struct Outcome<'a> {
+    pub station: Station<'a>,
+    pub answers: Vec<bool>,
+}
+
+// 16 trains, none of them anywhere.
+fn no_trains(heap: Global) -> Result<Vec<Train>, AllocError>
+    ensures { λ r. ⌜ made r (λ v. Nowhere 16 (vec-items v)) ⌝ }
+{
+    let mut trains = Vec::new(heap);
+    for _ in 0..16usize {
+        trains.push(Train::nowhere(heap))?;
+    }
+    Ok(trains)
+}
+
+impl<'a> Station<'a> {
+    // The empty station, its points lying as they lie.
+    pub fn new(heap: Global, plan: Plan<'a>, lies: [bool; 32]) -> Result<Station<'a>, AllocError>
+        ensures { λ r. ⌜ made r (λ s. (plan-of (s .plan) ≡ plan-of (plan .entry)) × (world-of (s .world) ≡ empty-station (marks lies))) ⌝ }
+    {
+        let trains = no_trains(heap)?;
+        let interlocking = Interlocking::at_rest();
+        let world = World {
+            interlocking,
+            lies,
+            trains,
+        };
+        Ok(Station { plan, world })
+    }
+
+    // One event: whether it was done. What is not done changes nothing, and neither does want of memory.
+    pub fn step(&mut self, event: Event) -> Result<bool, AllocError>
+        ensures steps { λ r. ⌜ Cases r (λ b. Told (plan-of (now (self .entry) .plan)) 16 (world-of (now (self .entry) .world)) (world-of (now (self .exit) .world)) event b) (λ _. world-of (now (self .exit) .world) ≡ world-of (now (self .entry) .world)) ⌝ }
+        ensures plan { λ _. ⌜ plan-of (now (self .exit) .plan) ≡ plan-of (now (self .entry) .plan) ⌝ }
+    {
+        self.world.step(self.plan, event)
+    }
+
+    pub fn plan(&self) -> Plan<'a>
+        ensures { λ r. ⌜ plan-of r ≡ plan-of (now (self .entry) .plan) ⌝ }
+    {
+        self.plan
+    }
+
+    pub fn interlocking(&self) -> Interlocking
+        ensures { λ r. ⌜ r ≡ now (self .entry) .world .interlocking ⌝ }
+    {
+        self.world.interlocking
+    }
+
+    // How the points lie.
+    pub fn lies(&self) -> [bool; 32]
+        ensures { λ r. ⌜ r ≡ now (self .entry) .world .lies ⌝ }
+    {
+        self.world.lies
+    }
+
+    // Does a train go up? One that is none does.
+    pub fn goes_up(&self, i: usize) -> bool
+        ensures { λ r. ⌜ r ≡ trains-of (vec-items (now (self .entry) .world .trains)) i .up ⌝ }
+    {
+        if i < 16 { self.world.trains[i].up } else { true }
+    }
+
+    // The sections of a train, its front first.
+    pub fn sections_of(&self, i: usize) -> &[u16]
+        ensures { λ r. ⌜ now r ≡ trains-of (vec-items (now (self .entry) .world .trains)) i .body ⌝ }
+    {
+        if i < 16 { self.world.trains[i].body.as_slice() } else { &[] }
+    }
+}
+
+// Plays so many of the events as the budget allows, from the empty station.
+pub fn run<'a>(heap: Global, plan: Plan<'a>, lies: [bool; 32], events: &[Event], budget: usize) -> Result<Outcome<'a>, AllocError>
+    ensures { λ r. ⌜ made r (λ done. (plan-of (done .station .plan) ≡ plan-of (plan .entry)) × Ran (plan-of (plan .entry)) (marks lies) (now (events .entry)) budget (vec-items (done .answers)) (world-of (done .station .world))) ⌝ }
+{
+    let n = budget.min(events.len());
+    let mut station = Station::new(heap, plan, lies)?;
+    let mut answers = Vec::new(heap);
+    for i in 0..n {
+        let done = station.step(events[i])?;
+        answers.push(done)?;
+    }
+    Ok(Outcome { station, answers })
+}
