@@ -66,7 +66,7 @@ come-in p n w i up x t b d s l m k e f g h =
     let r = seen-here (occupied n (w .trains)) x (omega arith) in
     let sees : s x ≡ occupied n (w .trains) x = ap (λ (z : Occupancy). z x) g ∙ r in
     let q : d ≡ may-enter p (w .interlocking) (occupied n (w .trains)) up x =
-        h ∙ ap (λ (z : Bool). p .edge x && (p .signal up x && (eqb (w .interlocking .lock x) 0 && not z))) sees
+    h ∙ ap (λ (z : Bool). p .edge x && (p .signal up x && (eqb (w .interlocking .lock x) 0 && not z))) sees
     in
     let v : b ≡ empty (w .trains i .body) = f ∙ ap (λ (r : Train). empty (r .body)) e in
     ap (λ (z : Bool). z && d) v ∙ ap (λ (z : Bool). empty (w .trains i .body) && z) q ∙ come-tests n (p .sections) x i (empty (w .trains i .body)) _ l m

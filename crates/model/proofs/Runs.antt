@@ -59,21 +59,27 @@ played-more p t es bs new w v i e b f n l g s k = subst (λ (z : List Bool). Pla
   where
     here : e ≡ getD es (length bs) no-event
     here = g ∙ ap (λ (j : ℕ). getD es j no-event) (sym n)
+
     row : done-row (bs ++ b ∷ []) es ≡ pick b (e ∷ done-row bs es) (done-row bs es)
     row = row-push bs b es (omega arith) ∙ ap (λ (z : Event). pick b (z ∷ done-row bs es) (done-row bs es)) (sym here)
+
     world : v ≡ after p 16 t (done-row (bs ++ b ∷ []) es)
     world = grown p t w v e (done-row bs es) b (k .world) s ∙ ap (after p 16 t) (sym row)
+
     lawful : Lawful p 16 t (done-row (bs ++ b ∷ []) es)
     lawful = subst (Lawful p 16 t) (sym row) (lawful-grown p t w v e (done-row bs es) b (k .world) s (k .lawful))
+
     old : (j : ℕ) → j < length bs → getD (bs ++ b ∷ []) j false ≡ happens p 16 (after p 16 t (done-row (take j (bs ++ b ∷ [])) es)) (getD es j no-event)
     old j m =
         getD-append-left bs (b ∷ []) false j m ∙ k .told j m
         ∙ ap (λ (z : List Bool). happens p 16 (after p 16 t (done-row z es)) (getD es j no-event)) (sym (take-append-le j bs (b ∷ []) (omega arith)))
+
     newest : getD (bs ++ b ∷ []) (length bs) false ≡ happens p 16 (after p 16 t (done-row (take (length bs) (bs ++ b ∷ [])) es)) (getD es (length bs) no-event)
     newest =
         getD-push bs b false (length bs) refl ∙ s .told ∙ ap (λ (z : World). happens p 16 z e) (k .world)
         ∙ ap (λ (z : List Bool). happens p 16 (after p 16 t (done-row z es)) e) (sym (take-append-le (length bs) bs (b ∷ []) (omega arith) ∙ take-all (length bs) bs (omega arith)))
         ∙ ap (λ (z : Event). happens p 16 (after p 16 t (done-row (take (length bs) (bs ++ b ∷ [])) es)) z) here
+
     told : (j : ℕ) → j < length (bs ++ b ∷ []) → getD (bs ++ b ∷ []) j false ≡ happens p 16 (after p 16 t (done-row (take j (bs ++ b ∷ [])) es)) (getD es j no-event)
     told j m = go (eqb j (length bs)) refl
       where

@@ -197,14 +197,14 @@ pub told-asked : (p : Plan) (n : ℕ) (w v : Held-world) (a b : Request) (s : Oc
 unfolding happens state-after lies-after trains-after
 told-asked p n w v a b s left r h e f x y z =
     let d : r .done ≡ does p (state-of (w .interlocking)) (occupied n (trains-of (vec-items (w .trains)))) (marks (w .lies)) a =
-        h .done? ∙ ap (λ (q : Occupancy). does p (state-of (w .interlocking)) q (marks (w .lies)) b) f ∙ ap (does p (state-of (w .interlocking)) (occupied n (trains-of (vec-items (w .trains)))) (marks (w .lies))) e
+    h .done? ∙ ap (λ (q : Occupancy). does p (state-of (w .interlocking)) q (marks (w .lies)) b) f ∙ ap (does p (state-of (w .interlocking)) (occupied n (trains-of (vec-items (w .trains)))) (marks (w .lies))) e
     in
     record {
       told = d;
       done = λ _. same-world _ _ _ _ _ _
-        (ap state-of x ∙ h .state ∙ ap (λ (q : Occupancy). acts p (state-of (w .interlocking)) q (marks (w .lies)) b) f
-        ∙ ap (acts p (state-of (w .interlocking)) (occupied n (trains-of (vec-items (w .trains)))) (marks (w .lies))) e)
-        (ap marks y) (ap (λ u. trains-of (vec-items u)) z);
+          (ap state-of x ∙ h .state ∙ ap (λ (q : Occupancy). acts p (state-of (w .interlocking)) q (marks (w .lies)) b) f
+          ∙ ap (acts p (state-of (w .interlocking)) (occupied n (trains-of (vec-items (w .trains)))) (marks (w .lies))) e)
+          (ap marks y) (ap (λ u. trains-of (vec-items u)) z);
       not-done = λ k. same-world _ _ _ _ _ _ (ap state-of (x ∙ h .unchanged (sym (h .done?) ∙ k))) (ap marks y) (ap (λ u. trains-of (vec-items u)) z);
     }
 

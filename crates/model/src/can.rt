@@ -14,7 +14,13 @@ use plan::read::mark_at;
 use plan::view::Plan;
 
 // Is it an edge with a signal that way, not locked and not occupied?
-fn may_enter(plan: Plan<'_>, interlocking: &Interlocking, occupied: &[bool], up: bool, x: u16) -> bool
+fn may_enter(
+    plan: Plan<'_>,
+    interlocking: &Interlocking,
+    occupied: &[bool],
+    up: bool,
+    x: u16,
+) -> bool
     ensures { λ r. ⌜ r ≡ may-enter (plan-of (plan .entry)) (state-of (now (interlocking .entry))) (marks (now (occupied .entry))) up x ⌝ }
 {
     let at = usize::from(x);

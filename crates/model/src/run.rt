@@ -1,9 +1,9 @@
 // A station from its start, one event after the other.
-ghost use lib.ListN.{getD, length};
-ghost use mathlib.Core.Bool.{true};
 ghost use mathlib.Core.Path.{_≡_};
-ghost use Rattle.model.specs.Held.{trains-of, world-of};
+ghost use Prim.Native.Nat.{min};
+ghost use Rattle.model.specs.Held.{trains-of};
 ghost use Rattle.model.specs.Ran.{Nowhere, Ran};
+ghost use Rattle.model.specs.Stations.{station-plan, station-world};
 ghost use Rattle.model.specs.Steps.{Told};
 ghost use Rattle.model.specs.World.{empty-station};
 ghost use Rattle.plan.specs.Plan.{marks};
@@ -41,7 +41,7 @@ fn no_trains(heap: Global) -> Result<Vec<Train>, AllocError>
 impl<'a> Station<'a> {
     // The empty station, its points lying as they lie.
     pub fn new(heap: Global, plan: Plan<'a>, lies: [bool; 32]) -> Result<Station<'a>, AllocError>
-        ensures { λ r. ⌜ made r (λ s. (plan-of (s .plan) ≡ plan-of (plan .entry)) × (world-of (s .world) ≡ empty-station (marks lies))) ⌝ }
+        ensures { λ r. ⌜ made r (λ s. (station-plan s ≡ plan-of (plan .entry)) × (station-world s ≡ empty-station (marks lies))) ⌝ }
     {
         let trains = no_trains(heap)?;
         let interlocking = Interlocking::at_rest();
@@ -55,14 +55,14 @@ impl<'a> Station<'a> {
 
     // One event: whether it was done. What is not done changes nothing, and neither does want of memory.
     pub fn step(&mut self, event: Event) -> Result<bool, AllocError>
-        ensures steps { λ r. ⌜ Cases r (λ b. Told (plan-of (now (self .entry) .plan)) 16 (world-of (now (self .entry) .world)) (world-of (now (self .exit) .world)) event b) (λ _. world-of (now (self .exit) .world) ≡ world-of (now (self .entry) .world)) ⌝ }
-        ensures plan { λ _. ⌜ plan-of (now (self .exit) .plan) ≡ plan-of (now (self .entry) .plan) ⌝ }
+        ensures steps { λ r. ⌜ Cases r (λ b. Told (station-plan (now (self .entry))) 16 (station-world (now (self .entry))) (station-world (now (self .exit))) event b) (λ _. station-world (now (self .exit)) ≡ station-world (now (self .entry))) ⌝ }
+        ensures plan { λ _. ⌜ station-plan (now (self .exit)) ≡ station-plan (now (self .entry)) ⌝ }
     {
         self.world.step(self.plan, event)
     }
 
     pub fn plan(&self) -> Plan<'a>
-        ensures { λ r. ⌜ plan-of r ≡ plan-of (now (self .entry) .plan) ⌝ }
+        ensures { λ r. ⌜ plan-of r ≡ station-plan (now (self .entry)) ⌝ }
     {
         self.plan
     }
@@ -84,22 +84,43 @@ impl<'a> Station<'a> {
     pub fn goes_up(&self, i: usize) -> bool
         ensures { λ r. ⌜ r ≡ trains-of (vec-items (now (self .entry) .world .trains)) i .up ⌝ }
     {
-        if i < 16 { self.world.trains[i].up } else { true }
+        if i < 16 {
+            self.world.trains[i].up
+        } else {
+            true
+        }
     }
 
     // The sections of a train, its front first.
     pub fn sections_of(&self, i: usize) -> &[u16]
         ensures { λ r. ⌜ now r ≡ trains-of (vec-items (now (self .entry) .world .trains)) i .body ⌝ }
     {
-        if i < 16 { self.world.trains[i].body.as_slice() } else { &[] }
+        if i < 16 {
+            self.world.trains[i].body.as_slice()
+        } else {
+            &[]
+        }
     }
 }
 
-// Plays so many of the events as the budget allows, from the empty station.
-pub fn run<'a>(heap: Global, plan: Plan<'a>, lies: [bool; 32], events: &[Event], budget: usize) -> Result<Outcome<'a>, AllocError>
-    ensures { λ r. ⌜ made r (λ done. (plan-of (done .station .plan) ≡ plan-of (plan .entry)) × Ran (plan-of (plan .entry)) (marks lies) (now (events .entry)) budget (vec-items (done .answers)) (world-of (done .station .world))) ⌝ }
+// How many events are played.
+fn allowed(budget: usize, events: usize) -> usize
+    ensures { λ r. ⌜ r ≡ min budget events ⌝ }
 {
-    let n = budget.min(events.len());
+    budget.min(events)
+}
+
+// Plays so many of the events as the budget allows, from the empty station.
+pub fn run<'a>(
+    heap: Global,
+    plan: Plan<'a>,
+    lies: [bool; 32],
+    events: &[Event],
+    budget: usize,
+) -> Result<Outcome<'a>, AllocError>
+    ensures { λ r. ⌜ made r (λ done. (station-plan (done .station) ≡ plan-of (plan .entry)) × Ran (plan-of (plan .entry)) (marks lies) (now (events .entry)) budget (vec-items (done .answers)) (station-world (done .station))) ⌝ }
+{
+    let n = allowed(budget, events.len());
     let mut station = Station::new(heap, plan, lies)?;
     let mut answers = Vec::new(heap);
     for i in 0..n {

@@ -17,7 +17,8 @@ use std::alloc::AllocError;
 fn turned(wanted: bool, _lies: bool) -> bool
     ensures { λ r. ⌜ r ≡ wanted ⌝ }
 {
-    wanted
+    let left = wanted;
+    left
 }
 
 impl World {
@@ -38,7 +39,8 @@ impl World {
     {
         let occupied = self.occupancy();
         let lies = self.lies;
-        let (left, answer) = self.interlocking.act(plan, &occupied, &lies, request.kind(), request.which());
+        let (left, answer) = self.interlocking
+            .act(plan, &occupied, &lies, request.kind(), request.which());
         self.interlocking = left;
         Ok(answer.done)
     }

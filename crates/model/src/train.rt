@@ -86,7 +86,9 @@ impl Train {
     {
         let x = self.front();
         let shown = open_here(plan, interlocking, self.up, x);
-        !self.is_nowhere() & ((self.ahead(plan, lies) < plan.sections()) & may_pass(plan.signal(self.up, x), shown))
+        !self.is_nowhere()
+            & ((self.ahead(plan, lies) < plan.sections())
+                & may_pass(plan.signal(self.up, x), shown))
     }
 
     // Is there a signal at its other end, where it can turn round?

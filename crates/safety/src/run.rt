@@ -1,5 +1,5 @@
 // A run of events from the empty station, with all that is promised of it.
-ghost use Rattle.model.specs.Held.{world-of};
+ghost use Rattle.model.specs.Stations.{station-world};
 ghost use Rattle.plan.specs.Plan.{marks};
 ghost use Rattle.plan.specs.View.{plan-of};
 ghost use Rattle.safety.specs.Promised.{Promised};
@@ -20,7 +20,7 @@ pub fn run<'a>(
     events: &[Event],
     budget: usize,
 ) -> Result<Outcome<'a>, AllocError>
-    ensures { λ r. ⌜ made r (λ done. Promised (plan-of (plan .entry)) (marks lies) (now (events .entry)) budget (vec-items (done .answers)) (world-of (done .station .world))) ⌝ }
+    ensures { λ r. ⌜ made r (λ done. Promised (plan-of (plan .entry)) (marks lies) (now (events .entry)) budget (vec-items (done .answers)) (station-world (done .station))) ⌝ }
 {
     model::run::run(heap, plan, lies, events, budget)
 }

@@ -10,24 +10,29 @@ use Rattle.model.proofs.Runs.{played-from, played-more, played-start, told-by}
 use Rattle.model.proofs.run.run.Needs as need
 
 pub loop-i-holds : need.loop-i-holds
-loop-i-holds c =
-    (c .new-answers .ensures .len, c .in-Continue-station .ensures tt .0,
-    played-start (plan-of (c .args .plan)) (marks (c .args .lies)) (c .args .events .now) _ (world-of (c .in-Continue-station .station .world)) (c .new-answers .ensures .items) (c .in-Continue-station .ensures tt .1))
+loop-i-holds c = (
+  c .new-answers .ensures .len,
+  c .in-Continue-station .ensures tt .0,
+  played-start (plan-of (c .args .plan)) (marks (c .args .lies)) (c .args .events .now) _ (world-of (c .in-Continue-station .station .world)) (c .new-answers .ensures .items) (c .in-Continue-station .ensures tt .1),
+)
 
 pub loop-i-again : need.loop-i-again
 loop-i-again c =
     let l : c .loop-i .i < length (c .args .events .now) = omega arith in
-    let n : length (vec-items (c .loop-i .answers)) ≡ c .loop-i .i = sym (c .loop-i .answers .ok .0) ∙ c .loop-i .inv .0 in
-    (omega (arith, c .in-Continue-push .ensures tt .len), c .in-Continue-done .ensures tt .plan ∙ c .loop-i .inv .1,
-    played-more (plan-of (c .args .plan)) (marks (c .in-Continue-station .station .world .lies)) (c .args .events .now) (vec-items (c .loop-i .answers)) _ (world-of (c .loop-i .station .world))
-    (world-of (c .step .last .self .world)) (c .loop-i .i) _ (c .in-Continue-done .done) (c .in-Continue-push .ensures tt .items) n l refl
-    (told-by _ _ _ _ _ _ (c .loop-i .inv .1) (c .in-Continue-done .ensures tt .steps)) (c .loop-i .inv .2))
+    let n : length (vec-items (c .loop-i .answers)) ≡ c .loop-i .i = sym (c .loop-i .answers .ok .0) ∙ c .loop-i .inv .0 in (
+      omega (arith, c .in-Continue-push .ensures tt .len),
+      c .in-Continue-done .ensures tt .plan ∙ c .loop-i .inv .1,
+      played-more (plan-of (c .args .plan)) (marks (c .in-Continue-station .station .world .lies)) (c .args .events .now) (vec-items (c .loop-i .answers)) _ (world-of (c .loop-i .station .world))
+          (world-of (c .step .last .self .world)) (c .loop-i .i) _ (c .in-Continue-done .done) (c .in-Continue-push .ensures tt .items) n l refl
+          (told-by _ _ _ _ _ _ (c .loop-i .inv .1) (c .in-Continue-done .ensures tt .steps)) (c .loop-i .inv .2),
+    )
 
 pub returns : need.returns
 returns c =
-    let e : length (vec-items (c .loop-i .answers)) ≡ min (c .args .budget) (length (c .args .events .now)) = omega (arith, c .min-n .ensures, c .loop-i .answers .ok .0) in
-    (c .loop-i .inv .1,
-    record {
-      count = e;
-      played = played-from (plan-of (c .args .plan)) (marks (c .args .lies)) _ _ (world-of (c .in-Continue-station .station .world)) _ (c .in-Continue-station .ensures tt .1) (c .loop-i .inv .2);
-    })
+    let e : length (vec-items (c .loop-i .answers)) ≡ min (c .args .budget) (length (c .args .events .now)) = omega (arith, c .allowed-n .ensures, c .loop-i .answers .ok .0) in (
+      c .loop-i .inv .1,
+      record {
+        count = e;
+        played = played-from (plan-of (c .args .plan)) (marks (c .args .lies)) _ _ (world-of (c .in-Continue-station .station .world)) _ (c .in-Continue-station .ensures tt .1) (c .loop-i .inv .2);
+      },
+    )

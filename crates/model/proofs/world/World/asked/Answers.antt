@@ -8,8 +8,8 @@ pub returns : need.returns
 returns c =
     record {
       steps = told-asked (plan-of (c .args .plan)) (c .args .self .now .trains .len) (c .args .self .now)
-        (record { interlocking = c .act .result .0; lies = c .args .self .now .lies; trains = c .args .self .now .trains }) (c .args .request) _ _ _ _
-        (c .act .ensures) (same-request _ _ _ (c .kind .ensures) (c .which .ensures))
-        (c .occupancy-occupied .ensures ∙ seen-all (vec-items (c .args .self .now .trains)) (c .args .self .now .trains .len) (c .pre)) refl refl refl;
+          (record { interlocking = c .act .result .0; lies = c .args .self .now .lies; trains = c .args .self .now .trains }) (c .args .request) _ _ _ _
+          (c .act .ensures) (same-request _ _ _ (c .kind .ensures) (c .which .ensures))
+          (c .occupancy-occupied .ensures ∙ seen-all (vec-items (c .args .self .now .trains)) (c .args .self .now .trains .len) (c .pre)) refl refl refl;
       sound = record { count = refl; inside = c .pre };
     }

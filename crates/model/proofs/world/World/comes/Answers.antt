@@ -46,6 +46,6 @@ returns c =
     let m = (moved (c .args .self .now) (c .args .i) (c .comes .last .self) _ (come-under (plan-of (c .args .plan)) (c .args .self .now .trains .len) (world-of (c .args .self .now)) (c .args .i) (c .args .up) (c .args .x) (sym (c .can-come .ensures) ∙ c .if-not-can-come .left)) (c .in-Continue-comes .ensures tt)) in
     record {
       steps = told-done (plan-of (c .args .plan)) (c .args .self .now .trains .len) (world-of (c .args .self .now)) _ (Comes (c .args .i) (c .args .up) (c .args .x)) _ (c .can-come .ensures) (c .if-not-can-come .left)
-        (step-moved (plan-of (c .args .plan)) (c .args .self .now) (written (c .args .self .now) (c .args .i) (c .comes .last .self)) (c .args .i) _ (Comes (c .args .i) (c .args .up) (c .args .x)) m refl refl refl);
+          (step-moved (plan-of (c .args .plan)) (c .args .self .now) (written (c .args .self .now) (c .args .i) (c .comes .last .self)) (c .args .i) _ (Comes (c .args .i) (c .args .up) (c .args .x)) m refl refl refl);
       sound = sound-moved (c .args .self .now) (written (c .args .self .now) (c .args .i) (c .comes .last .self)) (c .args .i) _ m (c .pre) (cons-inside _ _ (small-section (plan-of (c .args .plan)) (c .args .self .now .trains .len) (world-of (c .args .self .now)) (c .args .i) (c .args .up) (c .args .x) (sym (c .can-come .ensures) ∙ c .if-not-can-come .left) (few-sections (c .args .plan))) none-inside);
     }

@@ -29,6 +29,6 @@ returns c =
     let m = (moved (c .args .self .now) (c .args .i) (c .draws .last .self) _ (draw-under (plan-of (c .args .plan)) (c .args .self .now .trains .len) (world-of (c .args .self .now)) (c .args .i) (sym (c .can-draw .ensures) ∙ c .if-not-can-draw .left)) (drew _ _ _ (train-here (vec-items (c .args .self .now .trains)) (c .args .i) (c .args .self .now .trains .len) (c .index-mut .result .now) (draw-under (plan-of (c .args .plan)) (c .args .self .now .trains .len) (world-of (c .args .self .now)) (c .args .i) (sym (c .can-draw .ensures) ∙ c .if-not-can-draw .left)) (c .args .self .now .trains .ok .0) (c .index-mut .ensures .value)) (c .draws .ensures))) in
     record {
       steps = told-done (plan-of (c .args .plan)) (c .args .self .now .trains .len) (world-of (c .args .self .now)) _ (Draws (c .args .i)) _ (c .can-draw .ensures) (c .if-not-can-draw .left)
-        (step-noted (plan-of (c .args .plan)) (c .args .self .now) (written (c .args .self .now) (c .args .i) (c .draws .last .self)) (c .note .last .self) (c .args .i) _ (Draws (c .args .i)) m (c .note .ensures) refl refl refl);
+          (step-noted (plan-of (c .args .plan)) (c .args .self .now) (written (c .args .self .now) (c .args .i) (c .draws .last .self)) (c .note .last .self) (c .args .i) _ (Draws (c .args .i)) m (c .note .ensures) refl refl refl);
       sound = sound-noted (plan-of (c .args .plan)) (c .args .self .now) (written (c .args .self .now) (c .args .i) (c .draws .last .self)) (c .note .last .self) (sound-moved (c .args .self .now) (written (c .args .self .now) (c .args .i) (c .draws .last .self)) (c .args .i) _ m (c .pre) (cut-inside _ (inside-at (vec-items (c .args .self .now .trains)) (c .args .i) (c .pre)))) (c .note .ensures);
     }

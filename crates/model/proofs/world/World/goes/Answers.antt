@@ -44,6 +44,6 @@ returns c =
     let m = (moved (c .args .self .now) (c .args .i) (c .goes .last .self) _ (go-under (plan-of (c .args .plan)) (c .args .self .now .trains .len) (world-of (c .args .self .now)) (c .args .i) (sym (c .can-go .ensures) ∙ c .if-not-can-go .left)) (gone (plan-of (c .args .plan)) (marks (c .args .self .now .lies)) _ _ _ _ _ (train-here (vec-items (c .args .self .now .trains)) (c .args .i) (c .args .self .now .trains .len) (c .index .result .now) (go-under (plan-of (c .args .plan)) (c .args .self .now .trains .len) (world-of (c .args .self .now)) (c .args .i) (sym (c .can-go .ensures) ∙ c .if-not-can-go .left)) (c .args .self .now .trains .ok .0) (c .index .ensures)) (train-here (vec-items (c .args .self .now .trains)) (c .args .i) (c .args .self .now .trains .len) (c .index-mut .result .now) (go-under (plan-of (c .args .plan)) (c .args .self .now .trains .len) (world-of (c .args .self .now)) (c .args .i) (sym (c .can-go .ensures) ∙ c .if-not-can-go .left)) (c .args .self .now .trains .ok .0) (c .index-mut .ensures .value)) (c .ahead-x .ensures) (c .in-Continue-goes .ensures tt))) in
     record {
       steps = told-done (plan-of (c .args .plan)) (c .args .self .now .trains .len) (world-of (c .args .self .now)) _ (Goes (c .args .i)) _ (c .can-go .ensures) (c .if-not-can-go .left)
-        (step-noted (plan-of (c .args .plan)) (c .args .self .now) (written (c .args .self .now) (c .args .i) (c .goes .last .self)) (c .note .last .self) (c .args .i) _ (Goes (c .args .i)) m (c .note .ensures) refl refl refl);
+          (step-noted (plan-of (c .args .plan)) (c .args .self .now) (written (c .args .self .now) (c .args .i) (c .goes .last .self)) (c .note .last .self) (c .args .i) _ (Goes (c .args .i)) m (c .note .ensures) refl refl refl);
       sound = sound-noted (plan-of (c .args .plan)) (c .args .self .now) (written (c .args .self .now) (c .args .i) (c .goes .last .self)) (c .note .last .self) (sound-moved (c .args .self .now) (written (c .args .self .now) (c .args .i) (c .goes .last .self)) (c .args .i) _ m (c .pre) (cons-inside _ _ (small-front (plan-of (c .args .plan)) (c .args .self .now .trains .len) (world-of (c .args .self .now)) (c .args .i) (sym (c .can-go .ensures) ∙ c .if-not-can-go .left) (few-sections (c .args .plan))) (inside-at (vec-items (c .args .self .now .trains)) (c .args .i) (c .pre)))) (c .note .ensures);
     }

@@ -24,6 +24,6 @@ returns c =
     let m = (moved (c .args .self .now) (c .args .i) (c .leaves .last .self) _ (leave-under (plan-of (c .args .plan)) (c .args .self .now .trains .len) (world-of (c .args .self .now)) (c .args .i) (sym (c .can-leave .ensures) ∙ c .if-not-can-leave .left)) (went _ _ _ (train-here (vec-items (c .args .self .now .trains)) (c .args .i) (c .args .self .now .trains .len) (c .index-mut .result .now) (leave-under (plan-of (c .args .plan)) (c .args .self .now .trains .len) (world-of (c .args .self .now)) (c .args .i) (sym (c .can-leave .ensures) ∙ c .if-not-can-leave .left)) (c .args .self .now .trains .ok .0) (c .index-mut .ensures .value)) (c .leaves .ensures))) in
     record {
       steps = told-done (plan-of (c .args .plan)) (c .args .self .now .trains .len) (world-of (c .args .self .now)) _ (Leaves (c .args .i)) _ (c .can-leave .ensures) (c .if-not-can-leave .left)
-        (step-moved (plan-of (c .args .plan)) (c .args .self .now) (written (c .args .self .now) (c .args .i) (c .leaves .last .self)) (c .args .i) _ (Leaves (c .args .i)) m refl refl refl);
+          (step-moved (plan-of (c .args .plan)) (c .args .self .now) (written (c .args .self .now) (c .args .i) (c .leaves .last .self)) (c .args .i) _ (Leaves (c .args .i)) m refl refl refl);
       sound = sound-moved (c .args .self .now) (written (c .args .self .now) (c .args .i) (c .leaves .last .self)) (c .args .i) _ m (c .pre) none-inside;
     }

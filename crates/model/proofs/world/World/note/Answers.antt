@@ -10,7 +10,7 @@ pub returns : need.returns
 returns c =
     record {
       interlocking = c .note-left .ensures ∙ ap (notes (plan-of (c .args .plan)) (state-of (c .args .self .now .interlocking)))
-        (c .occupancy-occupied .ensures ∙ seen-all (vec-items (c .args .self .now .trains)) (c .args .self .now .trains .len) (c .pre));
+          (c .occupancy-occupied .ensures ∙ seen-all (vec-items (c .args .self .now .trains)) (c .args .self .now .trains .len) (c .pre));
       lies = refl;
       trains = refl;
     }

@@ -15,10 +15,11 @@ pub loop-i-holds : need.loop-i-holds
 loop-i-holds c = (refl, seen-none (trains-of (vec-items (c .args .self .now .trains))) (replicate 64 false) (all-clear 64))
 
 pub loop-i-again : need.loop-i-again
-loop-i-again c =
-    (ap length (c .mark .ensures) ∙ length-marked _ _ ∙ c .loop-i .inv .0,
-    seen-more (trains-of (vec-items (c .args .self .now .trains))) (c .loop-i .occupied) _ (c .loop-i .i) _ (c .loop-i .inv .0)
-    (train-here _ (c .loop-i .i) (c .args .self .now .trains .len) _ (omega arith) (c .args .self .now .trains .ok .0) (c .index .ensures)) (c .mark .ensures) (c .loop-i .inv .1))
+loop-i-again c = (
+  ap length (c .mark .ensures) ∙ length-marked _ _ ∙ c .loop-i .inv .0,
+  seen-more (trains-of (vec-items (c .args .self .now .trains))) (c .loop-i .occupied) _ (c .loop-i .i) _ (c .loop-i .inv .0)
+      (train-here _ (c .loop-i .i) (c .args .self .now .trains .len) _ (omega arith) (c .args .self .now .trains .ok .0) (c .index .ensures)) (c .mark .ensures) (c .loop-i .inv .1),
+)
 
 pub returns : need.returns
 returns c =

@@ -24,6 +24,6 @@ returns c =
     let m = (moved (c .args .self .now) (c .args .i) (c .reverses .last .self) _ (reverse-under (plan-of (c .args .plan)) (c .args .self .now .trains .len) (world-of (c .args .self .now)) (c .args .i) (sym (c .can-reverse .ensures) ∙ c .if-not-can-reverse .left)) (turned-round _ _ _ (train-here (vec-items (c .args .self .now .trains)) (c .args .i) (c .args .self .now .trains .len) (c .index-mut .result .now) (reverse-under (plan-of (c .args .plan)) (c .args .self .now .trains .len) (world-of (c .args .self .now)) (c .args .i) (sym (c .can-reverse .ensures) ∙ c .if-not-can-reverse .left)) (c .args .self .now .trains .ok .0) (c .index-mut .ensures .value)) (c .reverses .ensures))) in
     record {
       steps = told-done (plan-of (c .args .plan)) (c .args .self .now .trains .len) (world-of (c .args .self .now)) _ (Reverses (c .args .i)) _ (c .can-reverse .ensures) (c .if-not-can-reverse .left)
-        (step-moved (plan-of (c .args .plan)) (c .args .self .now) (written (c .args .self .now) (c .args .i) (c .reverses .last .self)) (c .args .i) _ (Reverses (c .args .i)) m refl refl refl);
+          (step-moved (plan-of (c .args .plan)) (c .args .self .now) (written (c .args .self .now) (c .args .i) (c .reverses .last .self)) (c .args .i) _ (Reverses (c .args .i)) m refl refl refl);
       sound = sound-moved (c .args .self .now) (written (c .args .self .now) (c .args .i) (c .reverses .last .self)) (c .args .i) _ m (c .pre) (reversed-inside _ (inside-at (vec-items (c .args .self .now .trains)) (c .args .i) (c .pre)));
     }

@@ -29,7 +29,7 @@ returns c =
     let within : c .args .q < length (c .args .self .now .lies) = omega arith in
     record {
       steps = told-done (plan-of (c .args .plan)) (c .args .self .now .trains .len) (world-of (c .args .self .now)) _ (Turns (c .args .q)) _ (c .can-turn .ensures) (c .if-not-can-turn .left)
-        (step-turned (plan-of (c .args .plan)) (c .args .self .now .trains .len) (c .args .self .now) (record { interlocking = c .args .self .now .interlocking; lies = set (c .args .self .now .lies) (c .args .q) (c .turned .result); trains = c .args .self .now .trains }) (c .args .q) refl refl
-        (turned-marks (c .args .self .now .lies) (c .args .q) _ (state-of (c .args .self .now .interlocking) .wanted) within (c .turned .ensures ∙ c .wants-left-wanted .ensures)));
+          (step-turned (plan-of (c .args .plan)) (c .args .self .now .trains .len) (c .args .self .now) (record { interlocking = c .args .self .now .interlocking; lies = set (c .args .self .now .lies) (c .args .q) (c .turned .result); trains = c .args .self .now .trains }) (c .args .q) refl refl
+          (turned-marks (c .args .self .now .lies) (c .args .q) _ (state-of (c .args .self .now .interlocking) .wanted) within (c .turned .ensures ∙ c .wants-left-wanted .ensures)));
       sound = record { count = refl; inside = c .pre };
     }

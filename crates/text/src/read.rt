@@ -1,0 +1,51 @@
+// A plan's text to its numbers.
+use crate::draft::Draft;
+use crate::statement::WORDS;
+use crate::statement::statement_of;
+use std::alloc::Global;
+use words::cursor::stated;
+use words::cursor::tokens;
+use words::fault::Fault;
+use words::fault::Kind;
+use words::fault::kind_of;
+
+// The numbers that a text says, which may still be refused, or the line that can't be read.
+pub fn read_plan(heap: Global, text: &str) -> Result<Vec<u16>, Fault<'_>> {
+    let mut draft = Draft::new();
+    let mut last = 1;
+    for (i, line) in text.lines().enumerate() {
+        last = i.saturating_add(1);
+        if let Err(kind) = read_line(heap, &mut draft, last, stated(line)) {
+            return Err(Fault { line: last, kind });
+        }
+    }
+    if let Some((line, kind)) = draft.missing() {
+        return Err(Fault { line, kind });
+    }
+    match draft.numbers(heap) {
+        Ok(numbers) => Ok(numbers),
+        Err(_) => Err(Fault {
+            line: last,
+            kind: Kind::Memory,
+        }),
+    }
+}
+
+// Takes one line into the draft, or says what is wrong with it.
+fn read_line<'a>(
+    heap: Global,
+    draft: &mut Draft,
+    line: usize,
+    text: &'a str,
+) -> Result<(), Kind<'a>> {
+    let Ok(tokens) = tokens(heap, text) else {
+        return Err(Kind::Memory);
+    };
+    if tokens.is_empty() {
+        return Ok(());
+    }
+    match statement_of(&tokens) {
+        Ok(said) => draft.take(line, said),
+        Err(wrong) => Err(kind_of(text, wrong, &WORDS)),
+    }
+}
