@@ -126,7 +126,11 @@ mod tests {
 
     #[test]
     fn cleared_once_its_point_has_turned(rt: LibcRuntime) -> Result<(), Fail> {
-        comes_to(&rt, "ask 5\nclear 5\nturns 1\nclear 5\n", "+-++ 5 shown ...55.")
+        comes_to(
+            &rt,
+            "ask 5\nclear 5\nturns 1\nclear 5\n",
+            "+-++ 5 shown ...55.",
+        )
     }
 
     #[test]
@@ -163,7 +167,11 @@ mod tests {
             "ask 0\nclear 0\nback 0\ntick\ntick\n",
             "+++++ 0 falling .00...",
         )?;
-        comes_to(&rt, "ask 0\nclear 0\nback 0\ntick\ntick\ntick\n", "++++++ ......")
+        comes_to(
+            &rt,
+            "ask 0\nclear 0\nback 0\ntick\ntick\ntick\n",
+            "++++++ ......",
+        )
     }
 
     #[test]

@@ -55,8 +55,9 @@ beyond p t up x = pick (p .end up x .moves) (pick (t (p .end up x .point)) (p .e
 unfoldable pub Joined : Plan → Positions → Bool → ℕ → ℕ → Type 0
 Joined p t up a b = (beyond p t up a ≡ b) × (beyond p t (not up) b ≡ a)
 
+-- what stands for a route that the plan has not
 unfoldable pub no-route : Route
-no-route = record { begin = 0; up = true; path = []; needs = [] }
+no-route = record { begin = 0; up = false; path = []; needs = [] }
 
 unfoldable pub route : Plan → ℕ → Route
 route p r = getD (p .routes) r no-route

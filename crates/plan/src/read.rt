@@ -13,11 +13,8 @@ use crate::Size;
 use crate::route::Route;
 use crate::view::Plan;
 
-// The numbers of a route that is none: it begins at 0, goes up, and has no path and no needs.
-static NO_ROUTE: [u16; 52] = [
-    0, 1, 0, 0, 0, 0, 0, 0, 0, 0, 0, 0, 0, 0, 0, 0, 0, 0, 0, 0, 0, 0, 0, 0, 0, 0, 0, 0, 0, 0, 0, 0, 0,
-    0, 0, 0, 0, 0, 0, 0, 0, 0, 0, 0, 0, 0, 0, 0, 0, 0, 0, 0,
-];
+// The numbers of a route that is none: it begins at 0, and has no path and no needs.
+static NO_ROUTE: [u16; 52] = [0; 52];
 
 // Why numbers are no plan, if they are none.
 pub fn refusal(numbers: &[u16]) -> Option<Refusal>
