@@ -1,7 +1,7 @@
-// Judges plans that are written as texts: prints one line for each, and ends with status 0 only if all are sound.
+// Judges plans that are written as texts: prints a line for each, and ends with status 0 only if all are sound.
+use explain::words::ReasonDisplay;
 use report::Outcome;
 use report::OutcomeDisplay;
-use std::alloc::Global;
 use std::env;
 use std::error::AnyError;
 use std::fs;
@@ -9,103 +9,137 @@ use std::io;
 use text::read::read_plan;
 use words::fault::FaultDisplay;
 
-// What is asked for besides the verdict.
+const USAGE: &str = "usage: judge [--explain] [--numbers] [FILE ..]";
+
+// What is printed for each plan.
 #[derive(Clone, Copy)]
 struct Options {
-    // Names stand before the lines.
+    // The name of the file stands before the line.
     named: bool,
+    // Below the line stands why.
+    explain: bool,
+    // The plan's numbers are printed, and nothing else.
+    numbers: bool,
 }
 
-// What a line is printed for: a file by its name, or standard input.
+// A plan's text, and the name that stands for it.
 #[derive(Clone, Copy)]
 struct Source<'a> {
     name: &'a str,
     text: &'a str,
 }
 
-fn usage() -> AnyError {
-    "usage: judge [FILE ..]".into()
+// Prints the numbers of a plan, one after the other.
+fn print_numbers(rt: &LibcRuntime, numbers: &[u16]) -> Result<(), AnyError> {
+    for (i, n) in numbers.iter().enumerate() {
+        if i > 0 {
+            print!(rt, " ")?;
+        }
+        print!(rt, "{n}")?;
+    }
+    println!(rt, "")?;
+    Ok(())
 }
 
-// Judges one text, and prints the line for it.
+// Prints the verdict on a plan, and why where that is asked for.
+fn print_verdict(
+    rt: &LibcRuntime,
+    options: Options,
+    name: &str,
+    numbers: &[u16],
+) -> Result<(), AnyError> {
+    let outcome = Outcome::of(numbers);
+    if options.named {
+        println!(rt, "{name}: {outcome}")?;
+    } else {
+        println!(rt, "{outcome}")?;
+    }
+    if options.explain {
+        if let Some(reason) = explain::why::explain(numbers) {
+            println!(rt, "  {reason}")?;
+        }
+    }
+    Ok(())
+}
+
+// Judges one text; true if it is a sound plan.
 fn judge_text(rt: &LibcRuntime, options: Options, source: Source<'_>) -> Result<bool, AnyError> {
-    let heap = rt.alloc();
     let name = source.name;
-    let numbers = match read_plan(heap, source.text) {
+    let numbers = match read_plan(rt.alloc(), source.text) {
         Ok(numbers) => numbers,
         Err(fault) => {
             eprintln!(rt, "{name}: {fault}")?;
             return Ok(false);
         }
     };
-    let outcome = Outcome::of(&numbers);
-    if options.named {
-        println!(rt, "{name}: {outcome}")?;
+    let numbers = numbers.as_slice();
+    if options.numbers {
+        print_numbers(rt, numbers)?;
     } else {
-        println!(rt, "{outcome}")?;
+        print_verdict(rt, options, name, numbers)?;
     }
-    Ok(outcome.is_sound())
+    Ok(Outcome::of(numbers).is_sound())
 }
 
 fn judge_file(rt: &LibcRuntime, options: Options, name: &str) -> Result<bool, AnyError> {
-    let text = match fs::read_to_string(rt, name) {
-        Ok(text) => text,
+    match fs::read_to_string(rt, name) {
+        Ok(text) => {
+            let text = text.as_str();
+            judge_text(rt, options, Source { name, text })
+        }
         Err(error) => {
             eprintln!(rt, "{name}: {error}")?;
-            return Ok(false);
+            Ok(false)
         }
-    };
-    judge_text(
-        rt,
-        options,
-        Source {
-            name,
-            text: text.as_str(),
-        },
-    )
+    }
 }
 
 fn judge_input(rt: &LibcRuntime, options: Options) -> Result<bool, AnyError> {
     let text = io::read_to_string(rt.alloc(), rt.stdin())?;
-    judge_text(
-        rt,
-        options,
-        Source {
-            name: "standard input",
-            text: text.as_str(),
-        },
-    )
+    let name = "standard input";
+    let text = text.as_str();
+    judge_text(rt, options, Source { name, text })
 }
 
-fn run(rt: &LibcRuntime) -> Result<bool, AnyError> {
-    let heap: Global = rt.alloc();
-    let mut files: Vec<String> = Vec::new(heap);
-    for (i, word) in env::args(rt)?.enumerate() {
-        if i == 0 {
-            continue;
+impl Options {
+    // Takes an option by its name; false where there is none such.
+    fn take(&mut self, word: &str) -> bool {
+        match word {
+            "--explain" => self.explain = true,
+            "--numbers" => self.numbers = true,
+            _ => return false,
         }
-        if word.as_str().starts_with("-") {
-            return Err(usage());
-        }
-        files.push(word)?;
+        true
     }
-    let options = Options {
-        named: files.len() > 1,
+}
+
+fn judge_all(rt: &LibcRuntime) -> Result<bool, AnyError> {
+    let mut options = Options {
+        named: false,
+        explain: false,
+        numbers: false,
     };
+    let mut files: Vec<String> = Vec::new(rt.alloc());
+    for word in env::args(rt)?.skip(1) {
+        if !word.as_str().starts_with("-") {
+            files.push(word)?;
+        } else if !options.take(word.as_str()) {
+            return Err(USAGE.into());
+        }
+    }
     if files.is_empty() {
         return judge_input(rt, options);
     }
+    options.named = files.len() > 1;
     let mut sound = true;
     for file in files.iter() {
-        if !judge_file(rt, options, file.as_str())? {
-            sound = false;
-        }
+        sound = judge_file(rt, options, file.as_str())? & sound;
     }
     Ok(sound)
 }
 
 fn main(rt: LibcRuntime) -> Result<(), AnyError> {
-    match run(&rt) {
+    match judge_all(&rt) {
         Ok(true) => Ok(()),
         Ok(false) => Err("not sound".into()),
         Err(error) => rt.report(Err(error)),

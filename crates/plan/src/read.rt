@@ -52,7 +52,7 @@ fn bad_size(numbers: &[u16]) -> Option<Size>
 }
 
 // The largest number that may stand at a place.
-fn most(first_route: usize, k: usize) -> u16
+pub fn most(first_route: usize, k: usize) -> u16
     ensures { λ r. ⌜ r ≡ most «first_route» k ⌝ }
 {
     if k < first_route {

@@ -23,7 +23,7 @@ fn is_so(need: Need, q: u16, left: bool) -> bool
 }
 
 // Does it need a point on this side?
-fn needs_so(route: Route<'_>, q: u16, left: bool) -> bool
+pub fn needs_so(route: Route<'_>, q: u16, left: bool) -> bool
     ensures { λ r. ⌜ r ≡ needed-so q left (route-of (route .entry) .needs) ⌝ }
 {
     let n = route.needs();
