@@ -9,8 +9,10 @@ use lib.Dec.{ltb, leb, eqb}
 use lib.ListN.{length, getD}
 use Rattle.plan.specs.Plan.{Plan}
 use Rattle.interlocking.specs.State.{Occupancy}
-use Rattle.model.specs.World.{Train, World, occupied, can, empty, without-last}
-use Rattle.model.specs.Held.{may-go, may-reverse, may-leave, may-enter, within}
+use Rattle.model.specs.World.{World, can}
+use Rattle.trains.specs.Trains.{Train, occupied, empty, without-last}
+use Rattle.trains.specs.Trains.{may-go, may-reverse, may-leave, may-enter}
+use Rattle.trains.specs.Held.{within}
 use Rattle.model.specs.declared.Event.{Event}
 use Rattle.model.specs.declared.Event.the-variants.{Asked, Turns, Goes, Draws, Reverses, Comes, Leaves}
 

@@ -19,15 +19,17 @@ use Rattle.interlocking.specs.declared.Request.{Request}
 use Rattle.interlocking.specs.declared.Request.the-variants.{Ask, Clear, Back, Free, Tick}
 use Rattle.interlocking.specs.declared.Interlocking.{Interlocking}
 use Rattle.occupancy.specs.Notes.{notes}
-use Rattle.model.specs.World.{Train, World, occupied, front, without-last, reversed, empty, can, next, with-train, trains-after, lies-after, state-after}
-use Rattle.model.specs.Held.{train-of, trains-of, world-of, all-inside, trains-inside, occupied-in, within}
+use Rattle.model.specs.World.{World, can, next, trains-after, lies-after, state-after}
+use Rattle.trains.specs.Trains.{Train, occupied, front, without-last, reversed, empty, with-train}
+use Rattle.model.specs.Held.{world-of, occupied-in}
+use Rattle.trains.specs.Held.{train-of, trains-of, all-inside, trains-inside, within}
 use Rattle.model.specs.Steps.{happens, Told, Sound, Moved, Noted}
 use Rattle.model.specs.declared.Event.{Event}
 use Rattle.model.specs.declared.Event.the-variants.{Asked, Turns, Goes, Draws, Reverses, Comes, Leaves}
-use Rattle.model.specs.declared.train.Train.{Train as Held-train}
+use Rattle.trains.specs.declared.train.Train.{Train as Held-train}
 use Rattle.model.specs.declared.world.World.{World as Held-world}
-use Rattle.model.proofs.Bodies.{cons-inside, cut-inside, reversed-inside, none-inside}
-use Rattle.model.proofs.Trains.{trains-set, with-same, inside-at, inside-set, vacant-outside}
+use Rattle.trains.proofs.Bodies.{cons-inside, cut-inside, reversed-inside, none-inside}
+use Rattle.trains.proofs.Trains.{trains-set, with-same, inside-at, inside-set, vacant-outside}
 
 -- what can happen says
 first : (a b : Bool) → a && b ≡ true → a ≡ true
@@ -207,14 +209,6 @@ told-asked p n w v a b s left r h e f x y z =
           (ap marks y) (ap (λ u. trains-of (vec-items u)) z);
       not-done = λ k. same-world _ _ _ _ _ _ (ap state-of (x ∙ h .unchanged (sym (h .done?) ∙ k))) (ap marks y) (ap (λ u. trains-of (vec-items u)) z);
     }
-
--- what is seen in 64 places is all that is occupied
-pub seen-all : (ts : List Held-train) (n : ℕ) → trains-inside ts ≡ true → within (occupied n (trains-of ts)) ≡ occupied n (trains-of ts)
-seen-all ts n h = fun-ext (λ x. go x (ltb x 64) refl)
-  where
-    go : (x : ℕ) (b : Bool) → ltb x 64 ≡ b → b && occupied n (trains-of ts) x ≡ occupied n (trains-of ts) x
-    go x true e = refl
-    go x false e = sym (vacant-outside ts n x h (grind arith))
 
 pub happens-can : (p : Plan) (n : ℕ) (w : World) (e : Event) → happens p n w e ≡ true → can p n w e ≡ true
 unfolding happens can

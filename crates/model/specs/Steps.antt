@@ -10,8 +10,10 @@ use Rattle.plan.specs.Plan.{Plan}
 use Rattle.interlocking.specs.State.{does}
 use Rattle.interlocking.specs.Says.{state-of}
 use Rattle.occupancy.specs.Notes.{notes}
-use Rattle.model.specs.World.{Train, World, occupied, can, next, with-train}
-use Rattle.model.specs.Held.{all-inside, occupied-in, trains-inside, trains-of, world-of}
+use Rattle.model.specs.World.{World, can, next}
+use Rattle.trains.specs.Trains.{Train, occupied, with-train}
+use Rattle.model.specs.Held.{occupied-in, world-of}
+use Rattle.trains.specs.Held.{all-inside, trains-inside, trains-of}
 use Rattle.model.specs.declared.Event.{Event}
 use Rattle.model.specs.declared.Event.the-variants.{Asked, Turns, Goes, Draws, Reverses, Comes, Leaves}
 use Rattle.model.specs.declared.world.World.{World as Held-world}

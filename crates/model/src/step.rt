@@ -2,7 +2,7 @@
 ghost use mathlib.Core.Bool.{true};
 ghost use mathlib.Core.Path.{_≡_};
 ghost use Rattle.model.specs.declared.Event.the-variants.{Asked, Comes, Draws, Goes, Leaves, Reverses, Turns};
-ghost use Rattle.model.specs.Held.{trains-inside};
+ghost use Rattle.trains.specs.Held.{trains-inside};
 ghost use Rattle.model.specs.Steps.{Noted, Sound, Steps};
 ghost use Rattle.plan.specs.View.{plan-of};
 ghost use Rattle.std.specs.Of.Vec.{vec-items};

@@ -1,8 +1,8 @@
 use mathlib.Core.Path.{ap, sym, _∙_}
 use native.Mathlib.Omega.{arith}
 use Rattle.std.specs.Of.Vec.{vec-items}
-use Rattle.model.specs.World.{Train}
-use Rattle.model.proofs.Trains.{train-here, train-past}
+use Rattle.trains.specs.Trains.{Train}
+use Rattle.trains.proofs.Trains.{train-here, train-past}
 use Rattle.model.proofs.station.Station.sections_of.Needs as need
 
 pub returns-then-i-lt16 : need.returns-then-i-lt16

@@ -4,8 +4,8 @@ use Rattle.plan.specs.Plan.{marks}
 use Rattle.plan.specs.View.{plan-of}
 use Rattle.model.specs.Held.{world-of}
 use Rattle.model.proofs.Cans.{come-in, come-out, come-far}
-use Rattle.model.proofs.Tracks.{few-sections}
-use Rattle.model.proofs.Trains.{train-here}
+use Rattle.trains.proofs.Tracks.{few-sections}
+use Rattle.trains.proofs.Trains.{train-here}
 use Rattle.model.proofs.world.World.can_come.Needs as need
 
 pub returns-then-i-len : need.returns-then-i-len

@@ -2,7 +2,7 @@ use native.Mathlib.Omega.{arith}
 use Rattle.plan.specs.View.{plan-of}
 use Rattle.model.specs.Held.{world-of}
 use Rattle.model.proofs.Cans.{draw-in, draw-out}
-use Rattle.model.proofs.Trains.{train-here}
+use Rattle.trains.proofs.Trains.{train-here}
 use Rattle.model.proofs.world.World.can_draw.Needs as need
 
 pub returns-then-i-len : need.returns-then-i-len

@@ -2,17 +2,18 @@ use mathlib.Core.Path.{_≡_, refl, sym, ap, _∙_}
 use Rattle.std.specs.Of.Vec.{vec-items}
 use Rattle.plan.specs.View.{plan-of}
 use Rattle.model.specs.World.{lies-after, state-after, trains-after}
-use Rattle.model.specs.Held.{train-of, trains-of, world-of}
+use Rattle.model.specs.Held.{world-of}
+use Rattle.trains.specs.Held.{train-of, trains-of}
 use Rattle.model.specs.Steps.{happens}
 use Rattle.model.specs.declared.Event.the-variants.{Comes}
 use Prim.Native.Nat.{_<_}
 use native.Mathlib.Omega.{arith}
-use Rattle.model.specs.World.{Train}
+use Rattle.trains.specs.Trains.{Train}
 use Rattle.std.proofs.shelf.Results.{err-from-errBy}
-use Rattle.model.specs.World.{empty}
-use Rattle.model.proofs.Bodies.{cons-inside, empty-nil, none-inside}
-use Rattle.model.proofs.Tracks.{few-sections}
-use Rattle.model.proofs.Trains.{inside-at, inside-set, train-here}
+use Rattle.trains.specs.Trains.{empty}
+use Rattle.trains.proofs.Bodies.{cons-inside, empty-nil, none-inside}
+use Rattle.trains.proofs.Tracks.{few-sections}
+use Rattle.trains.proofs.Trains.{inside-at, inside-set, train-here}
 use Rattle.model.proofs.Steps.{come-nowhere, come-under, kept-inside, moved, small-section, sound-moved, sound-same, step-failed, step-moved, told-done, told-not, written}
 use Rattle.model.proofs.world.World.comes.Needs as need
 

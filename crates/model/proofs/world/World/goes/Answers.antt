@@ -2,14 +2,15 @@ use mathlib.Core.Path.{_≡_, refl, sym, ap, _∙_}
 use Rattle.std.specs.Of.Vec.{vec-items}
 use Rattle.plan.specs.View.{plan-of}
 use Rattle.model.specs.World.{lies-after, state-after, trains-after}
-use Rattle.model.specs.Held.{train-of, trains-of, world-of}
+use Rattle.model.specs.Held.{world-of}
+use Rattle.trains.specs.Held.{train-of, trains-of}
 use Rattle.model.specs.Steps.{happens}
 use Rattle.model.specs.declared.Event.the-variants.{Goes}
 use Rattle.plan.specs.Plan.{marks}
 use Rattle.std.proofs.shelf.Results.{err-from-errBy}
-use Rattle.model.proofs.Bodies.{cons-inside}
-use Rattle.model.proofs.Tracks.{few-sections}
-use Rattle.model.proofs.Trains.{inside-at, inside-set, train-here}
+use Rattle.trains.proofs.Bodies.{cons-inside}
+use Rattle.trains.proofs.Tracks.{few-sections}
+use Rattle.trains.proofs.Trains.{inside-at, inside-set, train-here}
 use Rattle.model.proofs.Steps.{go-under, gone, kept-inside, moved, small-front, sound-moved, sound-noted, sound-same, step-failed, step-noted, told-done, told-not, written}
 use Rattle.model.proofs.world.World.goes.Needs as need
 

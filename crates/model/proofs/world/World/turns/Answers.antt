@@ -7,7 +7,7 @@ use Rattle.model.specs.Held.{world-of}
 use Rattle.model.specs.Steps.{happens}
 use Rattle.model.specs.declared.Event.the-variants.{Turns}
 use Rattle.interlocking.specs.Says.{state-of}
-use Rattle.model.proofs.Tracks.{few-points}
+use Rattle.trains.proofs.Tracks.{few-points}
 use Rattle.model.proofs.Steps.{few-turn, sound-same, step-turned, told-done, told-not, turn-under, turned-marks}
 use Rattle.model.proofs.world.World.turns.Needs as need
 
