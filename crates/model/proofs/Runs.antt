@@ -7,16 +7,13 @@ use native.Mathlib.Omega.{arith}
 use borrow.Author.Tests.{eqb-true, eqb-false}
 use lib.Dec.{eqb, leb}
 use lib.ListN.{length, getD, take}
-use Rattle.std.specs.Of.Vec.{vec-items}
 use Rattle.std.proofs.shelf.Lists.{getD-append-left, getD-push, length-push, take-append-le, take-all}
 use Rattle.plan.specs.Plan.{pick, Plan, Positions}
 use Rattle.interlocking.specs.State.{State, at-rest}
 use Rattle.model.specs.World.{World, Lawful, after, can, next, empty-station}
-use Rattle.trains.specs.Trains.{Train}
-use Rattle.trains.specs.Held.{all-inside, nowhere, train-of, trains-inside, trains-of}
+use Rattle.trains.specs.Held.{Nowhere, trains-of}
 use Rattle.model.specs.Steps.{happens, Told}
 use Rattle.model.specs.Ran.{done-onto, done-row, no-event, Played}
-use Rattle.trains.specs.Held.{Nowhere}
 use Rattle.model.specs.declared.Event.{Event}
 use Rattle.trains.specs.declared.train.Train.{Train as Held-train}
 use Rattle.model.proofs.Steps.{happens-can, same-world}

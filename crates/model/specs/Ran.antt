@@ -4,16 +4,12 @@ use mathlib.Core.Bool.{Bool, true, false}
 use mathlib.Core.List.{List, [], _∷_}
 use Prim.Native.Nat.{ℕ, min, _<_}
 use lib.ListN.{length, getD, take}
-use Rattle.std.specs.Of.Vec.{vec-items, vec-len}
 use Rattle.plan.specs.Plan.{pick, Plan, Positions}
 use Rattle.interlocking.specs.declared.Request.the-variants.{Ask}
 use Rattle.model.specs.World.{World, Lawful, after}
-use Rattle.trains.specs.Held.{nowhere, trains-inside, trains-of}
 use Rattle.model.specs.Steps.{happens}
-use Rattle.trains.specs.Trains.{Train}
 use Rattle.model.specs.declared.Event.{Event}
 use Rattle.model.specs.declared.Event.the-variants.{Asked}
-use Rattle.trains.specs.declared.train.Train.{Train as Held-train}
 
 -- past the end of a row
 abbrev pub no-event : Event

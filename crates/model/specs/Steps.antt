@@ -35,7 +35,7 @@ pub record Told (p : Plan) (n : ℕ) (old new : World) (e : Event) (b : Bool) : 
   pub not-done : b ≡ false → new ≡ old
 
 -- there are as many trains as before, in sections below 64
-pub record Sound (old new : Held-world) : Type 0 where
+pub record Stays-inside (old new : Held-world) : Type 0 where
   pub count : vec-len (new .trains) ≡ vec-len (old .trains)
   pub inside : trains-inside (vec-items (new .trains)) ≡ true
 

@@ -7,7 +7,7 @@ use Rattle.model.proofs.station.Station.sections_of.Needs as need
 
 pub returns-then-i-lt16 : need.returns-then-i-lt16
 returns-then-i-lt16 c =
-    c .as-slice .ensures .value ∙ ap (λ (t : Train). t .body)
+    c .sections .ensures ∙ ap (λ (t : Train). t .body)
     (train-here (vec-items (c .args .self .now .world .trains)) (c .args .i) (c .args .self .now .world .trains .len) (c .index .result .now) (omega arith) (c .args .self .now .world .trains .ok .0) (c .index .ensures))
 
 pub returns-else-i-lt16 : need.returns-else-i-lt16

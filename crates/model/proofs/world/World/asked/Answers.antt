@@ -1,7 +1,8 @@
 use mathlib.Core.Path.{refl, _∙_}
 use Rattle.std.specs.Of.Vec.{vec-items}
 use Rattle.plan.specs.View.{plan-of}
-use Rattle.model.proofs.Steps.{same-request, seen-all, told-asked}
+use Rattle.trains.proofs.Trains.{seen-all}
+use Rattle.model.proofs.Steps.{same-request, told-asked}
 use Rattle.model.proofs.world.World.asked.Needs as need
 
 pub returns : need.returns
@@ -11,5 +12,5 @@ returns c =
           (record { interlocking = c .act .result .0; lies = c .args .self .now .lies; trains = c .args .self .now .trains }) (c .args .request) _ _ _ _
           (c .act .ensures) (same-request _ _ _ (c .kind .ensures) (c .which .ensures))
           (c .occupancy-occupied .ensures ∙ seen-all (vec-items (c .args .self .now .trains)) (c .args .self .now .trains .len) (c .pre)) refl refl refl;
-      sound = record { count = refl; inside = c .pre };
+      inside = record { count = refl; inside = c .pre };
     }
