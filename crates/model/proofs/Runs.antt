@@ -48,11 +48,11 @@ unfolding Lawful
 lawful-grown p t w v e row true h s k = (ap (λ (z : World). can p 16 z e) (sym h) ∙ happens-can p 16 w e (sym (s .told)), k)
 lawful-grown p t w v e row false h s k = k
 
-pub played-none : (p : Plan) (t : Positions) (es : List Event) (w : World) → w ≡ empty-station t → Played p t es [] w
+played-none : (p : Plan) (t : Positions) (es : List Event) (w : World) → w ≡ empty-station t → Played p t es [] w
 unfolding done-row done-onto after Lawful
 played-none p t es w h = record { told = λ k l. absurd (omega arith); world = h; lawful = omega arith }
 
-pub played-more : (p : Plan) (t : Positions) (es : List Event) (bs new : List Bool) (w v : World) (i : ℕ) (e : Event) (b : Bool) → new ≡ bs ++ b ∷ [] → length bs ≡ i → i < length es →
+played-more : (p : Plan) (t : Positions) (es : List Event) (bs new : List Bool) (w v : World) (i : ℕ) (e : Event) (b : Bool) → new ≡ bs ++ b ∷ [] → length bs ≡ i → i < length es →
     e ≡ getD es i no-event → Told p 16 w v e b → Played p t es bs w → Played p t es new v
 played-more p t es bs new w v i e b f n l g s k = subst (λ (z : List Bool). Played p t es z v) (sym f) (record { told = told; world = world; lawful = lawful })
   where
@@ -97,8 +97,10 @@ played-start p t es bs w e h =
 pub played-from : (p : Plan) (t : Positions) (es : List Event) (bs : List Bool) (w v : World) → w ≡ empty-station t → Played p (w .lies) es bs v → Played p t es bs v
 played-from p t es bs w v h k = subst (λ (z : Positions). Played p z es bs v) (start-lies t w h) k
 
-pub told-by : (p q : Plan) (w v : World) (e : Event) (b : Bool) → p ≡ q → Told p 16 w v e b → Told q 16 w v e b
-told-by p q w v e b h k = subst (λ (z : Plan). Told z 16 w v e b) h k
+pub played-next : (p q : Plan) (t : Positions) (es : List Event) (bs new : List Bool) (w v : World) (i : ℕ) (b : Bool) → new ≡ bs ++ b ∷ [] → length bs ≡ i → i < length es → q ≡ p →
+    Told q 16 w v (getD es i no-event) b → Played p t es bs w → Played p t es new v
+played-next p q t es bs new w v i b f n l h s k =
+    played-more p t es bs new w v i (getD es i no-event) b f n l refl (subst (λ (z : Plan). Told z 16 w v (getD es i no-event) b) h s) k
 
 pub start : (h : State) (t : Positions) (ts : List Held-train) → h ≡ at-rest → Nowhere 16 ts → _≡_ {A = World} (record { interlocking = h; lies = t; trains = trains-of ts }) (empty-station t)
 unfolding empty-station
