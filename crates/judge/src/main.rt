@@ -55,26 +55,12 @@ fn judge_file(rt: &LibcRuntime, options: Options, name: &str) -> Result<bool, An
             return Ok(false);
         }
     };
-    judge_text(
-        rt,
-        options,
-        Source {
-            name,
-            text: text.as_str(),
-        },
-    )
+    judge_text(rt, options, Source { name, text: text.as_str() })
 }
 
 fn judge_input(rt: &LibcRuntime, options: Options) -> Result<bool, AnyError> {
     let text = io::read_to_string(rt.alloc(), rt.stdin())?;
-    judge_text(
-        rt,
-        options,
-        Source {
-            name: "standard input",
-            text: text.as_str(),
-        },
-    )
+    judge_text(rt, options, Source { name: "standard input", text: text.as_str() })
 }
 
 fn run(rt: &LibcRuntime) -> Result<bool, AnyError> {
@@ -89,9 +75,7 @@ fn run(rt: &LibcRuntime) -> Result<bool, AnyError> {
         }
         files.push(word)?;
     }
-    let options = Options {
-        named: files.len() > 1,
-    };
+    let options = Options { named: files.len() > 1 };
     if files.is_empty() {
         return judge_input(rt, options);
     }

@@ -120,13 +120,7 @@ fn play_files(rt: &LibcRuntime, options: &Options) -> Result<bool, AnyError> {
         Some(name) => name.as_str(),
         None => "standard input",
     };
-    play_text(
-        rt,
-        numbers.as_slice(),
-        name,
-        events_text.as_str(),
-        options.budget,
-    )
+    play_text(rt, numbers.as_slice(), name, events_text.as_str(), options.budget)
 }
 
 impl Options {
