@@ -1,10 +1,10 @@
 // A plan while its lines are read.
-use crate::NUMBERED;
-use crate::statement::Statement;
 use plan::End;
 use rows::RouteText;
 use rows::Rows;
 use rows::Sizes;
+use statement::NUMBERED;
+use statement::Statement;
 use std::alloc::AllocError;
 use std::alloc::Global;
 use words::Word;

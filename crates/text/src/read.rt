@@ -1,7 +1,7 @@
 // A plan's text to its numbers.
 use crate::draft::Draft;
-use crate::statement::WORDS;
-use crate::statement::statement_of;
+use statement::WORDS;
+use statement::statement_of;
 use std::alloc::Global;
 use words::cursor::stated;
 use words::cursor::tokens;

@@ -1,6 +1,4 @@
 // What one line of a plan says.
-use crate::NUMBERED;
-use crate::fixed;
 use plan::End;
 use plan::Need;
 use rows::Needs;
@@ -12,6 +10,9 @@ use words::Word;
 use words::cursor::Cursor;
 use words::cursor::Wrong;
 use words::fault::Expected;
+
+// How many sections or points a text can number: all but outside.
+pub const NUMBERED: u16 = 1000;
 
 // The words that a plan may have.
 pub static WORDS: [Word; 16] = [
@@ -49,16 +50,29 @@ pub enum Statement {
 // The statement of a line that is not empty, or what is wrong with it.
 pub fn statement_of(tokens: &[Token]) -> Result<Statement, Wrong> {
     let mut cursor = Cursor::new(tokens);
-    let first = cursor.peek();
+    let wrong = cursor.wrong(Expected::Statement);
+    let Some(Token::Word(first)) = cursor.peek() else {
+        return Err(wrong);
+    };
     cursor.step();
     match first {
-        Some(Token::Word(Word::Section)) => section(cursor),
-        Some(Token::Word(Word::Point)) => point(cursor),
-        Some(Token::Word(Word::Signal)) => signal(cursor),
-        Some(Token::Word(Word::Edge)) => edge(cursor),
-        Some(Token::Word(Word::Route)) => route(cursor),
-        Some(Token::Word(Word::Time)) => time(cursor),
-        _ => Err(Cursor::new(tokens).wrong(Expected::Statement)),
+        Word::Section => section(cursor),
+        Word::Point => point(cursor),
+        Word::Signal => signal(cursor),
+        Word::Edge => edge(cursor),
+        Word::Route => route(cursor),
+        Word::Time => time(cursor),
+        _ => Err(wrong),
+    }
+}
+
+// An end that no point moves.
+fn fixed(beyond: u16) -> End {
+    End {
+        moves: false,
+        point: 0,
+        on_left: beyond,
+        on_right: 0,
     }
 }
 
@@ -139,23 +153,22 @@ fn time(mut cursor: Cursor<'_>) -> Result<Statement, Wrong> {
 
 fn route(mut cursor: Cursor<'_>) -> Result<Statement, Wrong> {
     let up = cursor.either(Word::Up, Word::Down, Expected::Way)?;
-    cursor.word(Word::From)?;
-    let begin = cursor.number(Expected::Number(Word::From))?;
-    cursor.word(Word::By)?;
+    let begin = begin_of(&mut cursor)?;
     let path = path_of(&mut cursor);
-    let mut needs = Needs::none();
-    if cursor.word_if(Word::Needs) {
-        needs = needs_of(&mut cursor)?;
-        cursor.finish(Expected::Needs)?;
-    } else {
-        cursor.finish(Expected::Path)?;
-    }
+    let needs = last_needs(&mut cursor)?;
     Ok(Statement::Route(RouteText {
         begin,
         up,
         path,
         needs,
     }))
+}
+
+fn begin_of(cursor: &mut Cursor<'_>) -> Result<u16, Wrong> {
+    cursor.word(Word::From)?;
+    let begin = cursor.number(Expected::Number(Word::From))?;
+    cursor.word(Word::By)?;
+    Ok(begin)
 }
 
 fn path_of(cursor: &mut Cursor<'_>) -> Path {
@@ -167,6 +180,17 @@ fn path_of(cursor: &mut Cursor<'_>) -> Path {
         }
     }
     path
+}
+
+// The needs that end a line, which may have none.
+fn last_needs(cursor: &mut Cursor<'_>) -> Result<Needs, Wrong> {
+    if !cursor.word_if(Word::Needs) {
+        cursor.finish(Expected::Path)?;
+        return Ok(Needs::none());
+    }
+    let needs = needs_of(cursor)?;
+    cursor.finish(Expected::Needs)?;
+    Ok(needs)
 }
 
 fn needs_of(cursor: &mut Cursor<'_>) -> Result<Needs, Wrong> {
