@@ -1,19 +1,17 @@
 -- Trains that keep to signals, points that turn when they like, and all that can happen. Assumes nothing: these are definitions.
 use mathlib.Core.Path.{_≡_}
 use mathlib.Core.Bool.{Bool, true, false, _&&_, _||_, not}
-use mathlib.Core.List.{List, [], _∷_, _++_}
-use Prim.Native.Nat.{ℕ, zero, suc, _+_, _*_, _-_, _≤_, _<_}
+use mathlib.Core.List.{List, [], _∷_}
+use Prim.Native.Nat.{ℕ, _≤_}
 use lib.Dec.{ltb, leb, eqb}
-use lib.ListN.{length, getD}
-use Rattle.plan.specs.Plan.{pick, sameb, Route, Plan, Positions, beyond, Joined, route, among, last-of}
-use Rattle.plan.specs.declared.Need.{Need}
-use Rattle.interlocking.specs.declared.Stage.{Stage}
+use lib.ListN.{length}
+use Rattle.plan.specs.Plan.{pick, Plan, Positions, beyond, last-of}
 use Rattle.model.specs.declared.Event.{Event}
 use Rattle.model.specs.declared.Event.the-variants.{Asked, Turns, Goes, Draws, Reverses, Comes, Leaves}
-use Rattle.interlocking.specs.State.{is-open, State, Occupancy, acts, at-rest}
-use Rattle.interlocking.specs.declared.Request.{Request}
+use Rattle.interlocking.specs.State.{State, acts, at-rest}
 use Rattle.occupancy.specs.Notes.{notes}
-pub use Rattle.trains.specs.Trains.{Train, occupied, front, without-last, reversed, empty, open-here, with-train}
+pub use Rattle.trains.specs.Trains.{Train}
+unfoldable pub use Rattle.trains.specs.Trains.{occupied, front, without-last, reversed, empty, open-here, with-train}
 
 -- the interlocking, how the points really lie, and the trains by their numbers
 pub record World : Type 0 where
