@@ -1,4 +1,3 @@
-// Plans as texts: read to numbers, and written from them.
+// Plans read from texts, to their numbers.
 pub mod draft;
 pub mod read;
-pub mod write;

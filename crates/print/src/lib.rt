@@ -1,4 +1,4 @@
-// A plan's numbers to its text.
+// Plans written as texts, as they are read.
 use plan::End;
 use plan::route::Route;
 use plan::view::Plan;
@@ -50,6 +50,12 @@ impl fmt::Display for EndText as EndTextDisplay {
     }
 }
 
+// A piece more, unless there was no memory to make it.
+fn add(text: &mut String, piece: Result<String, AllocError>) -> Result<(), AllocError> {
+    let piece = piece?;
+    text.push_str(piece.as_str())
+}
+
 // The text of a plan: its sections, points, signals, edges and routes, and its time.
 pub fn write_plan(heap: Global, plan: Plan<'_>) -> Result<String, AllocError> {
     let mut text = String::new(heap);
@@ -58,8 +64,7 @@ pub fn write_plan(heap: Global, plan: Plan<'_>) -> Result<String, AllocError> {
     }
     for q in 0..plan.points() {
         let place = plan.place(q);
-        let line = format!(heap, "point {q} in {place}\n")?;
-        text.push_str(line.as_str())?;
+        add(&mut text, format!(heap, "point {q} in {place}\n"))?;
     }
     for x in 0..plan.sections() {
         write_marks(heap, &mut text, plan, x)?;
@@ -68,8 +73,7 @@ pub fn write_plan(heap: Global, plan: Plan<'_>) -> Result<String, AllocError> {
         write_route(heap, &mut text, plan.route(usize::from(r)))?;
     }
     let time = plan.time();
-    let line = format!(heap, "time {time}\n")?;
-    text.push_str(line.as_str())?;
+    add(&mut text, format!(heap, "time {time}\n"))?;
     Ok(text)
 }
 
@@ -88,22 +92,18 @@ fn write_section(
         end: plan.end(false, x),
         sections,
     };
-    let line = format!(heap, "section {x} up {up} down {down}\n")?;
-    text.push_str(line.as_str())
+    add(text, format!(heap, "section {x} up {up} down {down}\n"))
 }
 
 fn write_marks(heap: Global, text: &mut String, plan: Plan<'_>, x: u16) -> Result<(), AllocError> {
     if plan.signal(true, x) {
-        let line = format!(heap, "signal up {x}\n")?;
-        text.push_str(line.as_str())?;
+        add(text, format!(heap, "signal up {x}\n"))?;
     }
     if plan.signal(false, x) {
-        let line = format!(heap, "signal down {x}\n")?;
-        text.push_str(line.as_str())?;
+        add(text, format!(heap, "signal down {x}\n"))?;
     }
     if plan.edge(x) {
-        let line = format!(heap, "edge {x}\n")?;
-        text.push_str(line.as_str())?;
+        add(text, format!(heap, "edge {x}\n"))?;
     }
     Ok(())
 }
@@ -111,12 +111,16 @@ fn write_marks(heap: Global, text: &mut String, plan: Plan<'_>, x: u16) -> Resul
 fn write_route(heap: Global, text: &mut String, route: Route<'_>) -> Result<(), AllocError> {
     let way = if route.up() { "up" } else { "down" };
     let begin = route.begin();
-    let head = format!(heap, "route {way} from {begin} by")?;
-    text.push_str(head.as_str())?;
+    add(text, format!(heap, "route {way} from {begin} by"))?;
     for x in route.path() {
-        let piece = format!(heap, " {x}")?;
-        text.push_str(piece.as_str())?;
+        add(text, format!(heap, " {x}"))?;
     }
+    write_needs(heap, text, route)?;
+    text.push_str("\n")
+}
+
+// The needs of a route, if it has some.
+fn write_needs(heap: Global, text: &mut String, route: Route<'_>) -> Result<(), AllocError> {
     if route.needs() > 0 {
         text.push_str(" needs")?;
     }
@@ -124,8 +128,7 @@ fn write_route(heap: Global, text: &mut String, route: Route<'_>) -> Result<(), 
         let need = route.need(i);
         let point = need.point;
         let side = if need.left { "left" } else { "right" };
-        let piece = format!(heap, " {point} {side}")?;
-        text.push_str(piece.as_str())?;
+        add(text, format!(heap, " {point} {side}"))?;
     }
-    text.push_str("\n")
+    Ok(())
 }
