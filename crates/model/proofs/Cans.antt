@@ -7,10 +7,15 @@ use native.Mathlib.Omega.{arith}
 use borrow.Author.Tests.{lt-ltb, le-ltb}
 use lib.Dec.{ltb, leb, eqb}
 use lib.ListN.{length, getD}
-use Rattle.plan.specs.Plan.{Plan}
+use Rattle.std.specs.Of.Vec.{vec-items}
+use Rattle.plan.specs.Plan.{Plan, marks}
 use Rattle.interlocking.specs.State.{Occupancy}
-use Rattle.model.specs.World.{Train, World, occupied, can, empty, without-last}
-use Rattle.model.specs.Held.{may-go, may-reverse, may-leave, may-enter, within}
+use Rattle.model.specs.World.{World, can}
+use Rattle.trains.specs.Trains.{Train, occupied, empty, without-last, may-go, may-reverse, may-leave, may-enter}
+use Rattle.trains.specs.Held.{trains-of, within}
+use Rattle.trains.specs.declared.train.Train.{Train as Held-train}
+use Rattle.model.specs.Held.{occupied-in}
+use Rattle.model.specs.declared.world.World.{World as Held-world}
 use Rattle.model.specs.declared.Event.{Event}
 use Rattle.model.specs.declared.Event.the-variants.{Asked, Turns, Goes, Draws, Reverses, Comes, Leaves}
 
@@ -54,6 +59,12 @@ leave-out p n w i l = and-out (ltb i n) _ (le-ltb i n l)
 
 come-tests : (n s x i : ℕ) (e g : Bool) → i < n → x < s → e && g ≡ ltb i n && (e && (ltb x s && g))
 come-tests n s x i e g l m = grind arith
+
+-- what is marked of a world's trains
+pub seen-in : (w : Held-world) (bs : List Bool) (ts : List Held-train) → ts ≡ vec-items (w .trains) → marks bs ≡ within (occupied (length ts) (trains-of ts)) → marks bs ≡ within (occupied-in w)
+seen-in w bs ts e h =
+    h ∙ ap (λ (us : List Held-train). within (occupied (length us) (trains-of us))) e
+    ∙ ap (λ (n : ℕ). within (occupied n (trains-of (vec-items (w .trains))))) (sym (w .trains .ok .0))
 
 -- a section of 64 is seen as it is
 pub seen-here : (s : Occupancy) (x : ℕ) → x < 64 → within s x ≡ s x

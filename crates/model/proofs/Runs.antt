@@ -7,16 +7,15 @@ use native.Mathlib.Omega.{arith}
 use borrow.Author.Tests.{eqb-true, eqb-false}
 use lib.Dec.{eqb, leb}
 use lib.ListN.{length, getD, take}
-use Rattle.std.specs.Of.Vec.{vec-items}
 use Rattle.std.proofs.shelf.Lists.{getD-append-left, getD-push, length-push, take-append-le, take-all}
 use Rattle.plan.specs.Plan.{pick, Plan, Positions}
 use Rattle.interlocking.specs.State.{State, at-rest}
-use Rattle.model.specs.World.{Train, World, Lawful, after, can, next, empty-station}
-use Rattle.model.specs.Held.{all-inside, nowhere, train-of, trains-inside, trains-of}
+use Rattle.model.specs.World.{World, Lawful, after, can, next, empty-station}
+use Rattle.trains.specs.Held.{Nowhere, trains-of}
 use Rattle.model.specs.Steps.{happens, Told}
-use Rattle.model.specs.Ran.{done-onto, done-row, no-event, Nowhere, Played}
+use Rattle.model.specs.Ran.{done-onto, done-row, no-event, Played}
 use Rattle.model.specs.declared.Event.{Event}
-use Rattle.model.specs.declared.train.Train.{Train as Held-train}
+use Rattle.trains.specs.declared.train.Train.{Train as Held-train}
 use Rattle.model.proofs.Steps.{happens-can, same-world}
 
 -- one more answer
@@ -49,11 +48,11 @@ unfolding Lawful
 lawful-grown p t w v e row true h s k = (ap (λ (z : World). can p 16 z e) (sym h) ∙ happens-can p 16 w e (sym (s .told)), k)
 lawful-grown p t w v e row false h s k = k
 
-pub played-none : (p : Plan) (t : Positions) (es : List Event) (w : World) → w ≡ empty-station t → Played p t es [] w
+played-none : (p : Plan) (t : Positions) (es : List Event) (w : World) → w ≡ empty-station t → Played p t es [] w
 unfolding done-row done-onto after Lawful
 played-none p t es w h = record { told = λ k l. absurd (omega arith); world = h; lawful = omega arith }
 
-pub played-more : (p : Plan) (t : Positions) (es : List Event) (bs new : List Bool) (w v : World) (i : ℕ) (e : Event) (b : Bool) → new ≡ bs ++ b ∷ [] → length bs ≡ i → i < length es →
+played-more : (p : Plan) (t : Positions) (es : List Event) (bs new : List Bool) (w v : World) (i : ℕ) (e : Event) (b : Bool) → new ≡ bs ++ b ∷ [] → length bs ≡ i → i < length es →
     e ≡ getD es i no-event → Told p 16 w v e b → Played p t es bs w → Played p t es new v
 played-more p t es bs new w v i e b f n l g s k = subst (λ (z : List Bool). Played p t es z v) (sym f) (record { told = told; world = world; lawful = lawful })
   where
@@ -98,36 +97,10 @@ played-start p t es bs w e h =
 pub played-from : (p : Plan) (t : Positions) (es : List Event) (bs : List Bool) (w v : World) → w ≡ empty-station t → Played p (w .lies) es bs v → Played p t es bs v
 played-from p t es bs w v h k = subst (λ (z : Positions). Played p z es bs v) (start-lies t w h) k
 
-pub told-by : (p q : Plan) (w v : World) (e : Event) (b : Bool) → p ≡ q → Told p 16 w v e b → Told q 16 w v e b
-told-by p q w v e b h k = subst (λ (z : Plan). Told z 16 w v e b) h k
-
--- trains that are nowhere
-nowhere-none : Nowhere 0 []
-unfolding trains-of trains-inside
-nowhere-none = record { long = refl; none = λ i. refl; inside = refl }
-
-pub nowhere-start : (ts : List Held-train) → ts ≡ [] → Nowhere 0 ts
-nowhere-start ts e = subst (λ (z : List Held-train). Nowhere 0 z) (sym e) nowhere-none
-
-pub nowhere-all : (n m : ℕ) (ts : List Held-train) → n ≡ m → Nowhere n ts → Nowhere m ts
-nowhere-all n m ts e h = subst (λ (k : ℕ). Nowhere k ts) e h
-
-push-none : (ts : List Held-train) (t : Held-train) (i : ℕ) → ((j : ℕ) → trains-of ts j ≡ nowhere) → train-of t ≡ nowhere → trains-of (ts ++ t ∷ []) i ≡ nowhere
-unfolding trains-of
-push-none [] t zero h e = e
-push-none [] t (suc i) h e = refl
-push-none (s ∷ ts) t zero h e = h 0
-push-none (s ∷ ts) t (suc i) h e = push-none ts t i (λ j. h (suc j)) e
-
-push-inside : (ts : List Held-train) (t : Held-train) → trains-inside ts ≡ true → train-of t ≡ nowhere → trains-inside (ts ++ t ∷ []) ≡ true
-unfolding trains-inside all-inside
-push-inside [] t h e = let k : all-inside (vec-items (t .body)) ≡ true = ap (λ (r : Train). all-inside (r .body)) e in grind arith
-push-inside (s ∷ ts) t h e = let ih = push-inside ts t in grind arith
-
-pub nowhere-more : (n : ℕ) (ts us : List Held-train) (t : Held-train) → us ≡ ts ++ t ∷ [] → train-of t ≡ nowhere → Nowhere n ts → Nowhere (n + 1) us
-nowhere-more n ts us t f e h =
-    subst (λ (z : List Held-train). Nowhere (n + 1) z) (sym f)
-    (record { long = length-push ts t ∙ ap (λ (k : ℕ). k + 1) (h .long); none = λ i. push-none ts t i (h .none) e; inside = push-inside ts t (h .inside) e })
+pub played-next : (p q : Plan) (t : Positions) (es : List Event) (bs new : List Bool) (w v : World) (i : ℕ) (b : Bool) → new ≡ bs ++ b ∷ [] → length bs ≡ i → i < length es → q ≡ p →
+    Told q 16 w v (getD es i no-event) b → Played p t es bs w → Played p t es new v
+played-next p q t es bs new w v i b f n l h s k =
+    played-more p t es bs new w v i (getD es i no-event) b f n l refl (subst (λ (z : Plan). Told z 16 w v (getD es i no-event) b) h s) k
 
 pub start : (h : State) (t : Positions) (ts : List Held-train) → h ≡ at-rest → Nowhere 16 ts → _≡_ {A = World} (record { interlocking = h; lies = t; trains = trains-of ts }) (empty-station t)
 unfolding empty-station

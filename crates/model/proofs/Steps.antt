@@ -1,7 +1,7 @@
 -- From one train written, and from what is noted, to one step of the world.
 use mathlib.Core.Path.{_≡_, refl, sym, _∙_, ap, fun-ext}
 use mathlib.Core.Bool.{Bool, true, false, _&&_, _||_, not}
-use mathlib.Core.List.{List, [], _∷_}
+use mathlib.Core.List.{List, [], _∷_, _++_}
 use mathlib.Core.Logic.{_≢_}
 use Prim.Native.Nat.{ℕ, zero, suc, _+_, _≤_, _<_}
 use native.Mathlib.Omega.{arith}
@@ -19,15 +19,17 @@ use Rattle.interlocking.specs.declared.Request.{Request}
 use Rattle.interlocking.specs.declared.Request.the-variants.{Ask, Clear, Back, Free, Tick}
 use Rattle.interlocking.specs.declared.Interlocking.{Interlocking}
 use Rattle.occupancy.specs.Notes.{notes}
-use Rattle.model.specs.World.{Train, World, occupied, front, without-last, reversed, empty, can, next, with-train, trains-after, lies-after, state-after}
-use Rattle.model.specs.Held.{train-of, trains-of, world-of, all-inside, trains-inside, occupied-in, within}
-use Rattle.model.specs.Steps.{happens, Told, Sound, Moved, Noted}
+use Rattle.model.specs.World.{World, can, next, trains-after, lies-after, state-after}
+use Rattle.trains.specs.Trains.{Train, occupied, front, without-last, reversed, empty, with-train}
+use Rattle.model.specs.Held.{world-of, occupied-in}
+use Rattle.trains.specs.Held.{train-of, trains-of, all-inside, trains-inside}
+use Rattle.model.specs.Steps.{happens, Told, Stays-inside, Moved, Noted}
 use Rattle.model.specs.declared.Event.{Event}
 use Rattle.model.specs.declared.Event.the-variants.{Asked, Turns, Goes, Draws, Reverses, Comes, Leaves}
-use Rattle.model.specs.declared.train.Train.{Train as Held-train}
+use Rattle.trains.specs.declared.train.Train.{Train as Held-train}
 use Rattle.model.specs.declared.world.World.{World as Held-world}
-use Rattle.model.proofs.Bodies.{cons-inside, cut-inside, reversed-inside, none-inside}
-use Rattle.model.proofs.Trains.{trains-set, with-same, inside-at, inside-set, vacant-outside}
+use Rattle.trains.proofs.Bodies.{cons-inside, cut-inside, empty-nil, reversed-inside, none-inside}
+use Rattle.trains.proofs.Trains.{trains-set, train-here, with-same, inside-at, inside-set}
 
 -- what can happen says
 first : (a b : Bool) → a && b ≡ true → a ≡ true
@@ -111,8 +113,8 @@ told-not p n w e b h f = record { told = sym f ∙ h; done = λ z. absurd (grind
 pub told-done : (p : Plan) (n : ℕ) (w v : World) (e : Event) (b : Bool) → b ≡ happens p n w e → b ≡ true → v ≡ next p n w e → Told p n w v e true
 told-done p n w v e b h f k = record { told = sym f ∙ h; done = λ z. k; not-done = λ z. absurd (grind arith) }
 
-pub sound-same : (w : Held-world) → trains-inside (vec-items (w .trains)) ≡ true → Sound w w
-sound-same w h = record { count = refl; inside = h }
+pub stays-same : (w : Held-world) → trains-inside (vec-items (w .trains)) ≡ true → Stays-inside w w
+stays-same w h = record { count = refl; inside = h }
 
 pub step-moved : (p : Plan) (old new : Held-world) (i : ℕ) (r : Train) (e : Event) → Moved old new i r →
     state-after p (vec-len (old .trains)) (world-of old) e ≡ state-of (old .interlocking) → lies-after (world-of old) e ≡ marks (old .lies) →
@@ -138,32 +140,147 @@ step-failed old new i r m e =
     same-world _ _ _ _ _ _ (ap state-of (m .interlocking)) (ap marks (m .lies))
     (m .trains ∙ ap (λ (z : Train). with-train (trains-of (vec-items (old .trains))) i (z .up) (z .body)) e ∙ with-same (trains-of (vec-items (old .trains))) i)
 
-pub sound-moved : (old new : Held-world) (i : ℕ) (r : Train) → Moved old new i r → trains-inside (vec-items (old .trains)) ≡ true → all-inside (r .body) ≡ true → Sound old new
-sound-moved old new i r m h k = record { count = m .count; inside = m .inside h k }
+pub stays-moved : (old new : Held-world) (i : ℕ) (r : Train) → Moved old new i r → trains-inside (vec-items (old .trains)) ≡ true → all-inside (r .body) ≡ true → Stays-inside old new
+stays-moved old new i r m h k = record { count = m .count; inside = m .inside h k }
 
-pub sound-noted : (p : Plan) (old mid new : Held-world) → Sound old mid → Noted p mid new → Sound old new
-sound-noted p old mid new s n =
+pub stays-noted : (p : Plan) (old mid new : Held-world) → Stays-inside old mid → Noted p mid new → Stays-inside old new
+stays-noted p old mid new s n =
     record { count = ap (λ v. vec-len v) (n .trains) ∙ s .count; inside = ap (λ v. trains-inside (vec-items v)) (n .trains) ∙ s .inside }
 
--- a train as it was, of trains in sections below 64
-pub kept-inside : (ts : List Held-train) (i : ℕ) (r : Train) → r ≡ trains-of ts i → trains-inside ts ≡ true → all-inside (r .body) ≡ true
-kept-inside ts i r e h = ap (λ (z : Train). all-inside (z .body)) e ∙ inside-at ts i h
+-- a train read from the world
+here : (w : Held-world) (i : ℕ) (b : Held-train) → i < vec-len (w .trains) → b ≡ getD (vec-items (w .trains)) i b → train-of b ≡ trains-of (vec-items (w .trains)) i
+here w i b l e = train-here (vec-items (w .trains)) i (vec-len (w .trains)) b l (w .trains .ok .0) e
 
--- what the trains become
-pub gone : (p : Plan) (l : Positions) (t s : Train) (r u : Train) (x : ℕ) → t ≡ r → s ≡ r → x ≡ beyond p l (t .up) (front (t .body)) → u ≡ record { up = s .up; body = x ∷ s .body } →
-    u ≡ record { up = r .up; body = beyond p l (r .up) (front (r .body)) ∷ r .body }
+-- an event that is done, trains staying in sections below 64
+abbrev pub Happened : Plan → Held-world → Held-world → Event → Type 0
+Happened p w v e = Told p (vec-len (w .trains)) (world-of w) (world-of v) e true × Stays-inside w v
+
+-- one train written, and no more
+move-done : (p : Plan) (w : Held-world) (i : ℕ) (t : Held-train) (r : Train) (e : Event) (d : Bool) → i < vec-len (w .trains) → train-of t ≡ r →
+    state-after p (vec-len (w .trains)) (world-of w) e ≡ state-of (w .interlocking) → lies-after (world-of w) e ≡ marks (w .lies) →
+    trains-after p (world-of w) e ≡ with-train (trains-of (vec-items (w .trains))) i (r .up) (r .body) →
+    d ≡ happens p (vec-len (w .trains)) (world-of w) e → d ≡ true → trains-inside (vec-items (w .trains)) ≡ true → all-inside (r .body) ≡ true → Happened p w (written w i t) e
+move-done p w i t r e d l f x y z g k s u =
+    let m = moved w i t r l f in (
+      told-done p (vec-len (w .trains)) (world-of w) (world-of (written w i t)) e d g k (step-moved p w (written w i t) i r e m x y z),
+      stays-moved w (written w i t) i r m s u,
+    )
+
+-- one train written, and what is occupied noted
+note-done : (p : Plan) (w v : Held-world) (i : ℕ) (t : Held-train) (r : Train) (e : Event) (d : Bool) → i < vec-len (w .trains) → train-of t ≡ r → Noted p (written w i t) v →
+    state-after p (vec-len (w .trains)) (world-of w) e ≡ notes p (state-of (w .interlocking)) (occupied (vec-len (w .trains)) (trains-after p (world-of w) e)) →
+    lies-after (world-of w) e ≡ marks (w .lies) → trains-after p (world-of w) e ≡ with-train (trains-of (vec-items (w .trains))) i (r .up) (r .body) →
+    d ≡ happens p (vec-len (w .trains)) (world-of w) e → d ≡ true → trains-inside (vec-items (w .trains)) ≡ true → all-inside (r .body) ≡ true → Happened p w v e
+note-done p w v i t r e d l f n x y z g k s u =
+    let m = moved w i t r l f in (
+      told-done p (vec-len (w .trains)) (world-of w) (world-of v) e d g k (step-noted p w (written w i t) v i r e m n x y z),
+      stays-noted p w (written w i t) v (stays-moved w (written w i t) i r m s u) n,
+    )
+
+-- a train written as it was, for want of memory
+pub move-failed : (w : Held-world) (i : ℕ) (b t : Held-train) → i < vec-len (w .trains) → b ≡ getD (vec-items (w .trains)) i b → train-of t ≡ train-of b →
+    trains-inside (vec-items (w .trains)) ≡ true → (world-of (written w i t) ≡ world-of w) × Stays-inside w (written w i t)
+move-failed w i b t l e f s =
+    let m = moved w i t (trains-of (vec-items (w .trains)) i) l (f ∙ here w i b l e) in (
+      step-failed w (written w i t) i (trains-of (vec-items (w .trains)) i) m refl,
+      stays-moved w (written w i t) i (trains-of (vec-items (w .trains)) i) m s (inside-at (vec-items (w .trains)) i s),
+    )
+
+-- a train goes on
+abbrev farther : Plan → Positions → Train → Train
+farther p l r = record { up = r .up; body = beyond p l (r .up) (front (r .body)) ∷ r .body }
+
+gone : (p : Plan) (l : Positions) (t s : Train) (r u : Train) (x : ℕ) → t ≡ r → s ≡ r → x ≡ beyond p l (t .up) (front (t .body)) → u ≡ record { up = s .up; body = x ∷ s .body } → u ≡ farther p l r
 gone p l t s r u x e f g h =
     h ∙ ap (λ (y : ℕ). record { up = s .up; body = y ∷ s .body }) (g ∙ ap (λ (z : Train). beyond p l (z .up) (front (z .body))) e)
     ∙ ap (λ (z : Train). record { up = z .up; body = beyond p l (r .up) (front (r .body)) ∷ z .body }) f
 
-pub drew : (t r u : Train) → t ≡ r → u ≡ record { up = t .up; body = without-last (t .body) } → u ≡ record { up = r .up; body = without-last (r .body) }
+went-on : (p : Plan) (w : Held-world) (i x : ℕ) (a b t : Held-train) → i < vec-len (w .trains) → a ≡ getD (vec-items (w .trains)) i a → b ≡ getD (vec-items (w .trains)) i b →
+    x ≡ beyond p (marks (w .lies)) (a .up) (front (vec-items (a .body))) → train-of t ≡ record { up = b .up; body = x ∷ vec-items (b .body) } →
+    train-of t ≡ farther p (marks (w .lies)) (trains-of (vec-items (w .trains)) i)
+went-on p w i x a b t l e f h k =
+    gone p (marks (w .lies)) (train-of a) (train-of b) (trains-of (vec-items (w .trains)) i) (train-of t) x (here w i a l e) (here w i b l f) h k
+
+farther-inside : (p : Plan) (w : Held-world) (i : ℕ) → can p (vec-len (w .trains)) (world-of w) (Goes i) ≡ true → p .sections ≤ 64 → trains-inside (vec-items (w .trains)) ≡ true →
+    all-inside (farther p (marks (w .lies)) (trains-of (vec-items (w .trains)) i) .body) ≡ true
+farther-inside p w i g q s = cons-inside _ _ (small-front p (vec-len (w .trains)) (world-of w) i g q) (inside-at (vec-items (w .trains)) i s)
+
+pub go-inside-still : (p : Plan) (w : Held-world) (i x : ℕ) (a b t : Held-train) → p .sections ≤ 64 → trains-inside (vec-items (w .trains)) ≡ true →
+    can p (vec-len (w .trains)) (world-of w) (Goes i) ≡ true → a ≡ getD (vec-items (w .trains)) i a → b ≡ getD (vec-items (w .trains)) i b →
+    x ≡ beyond p (marks (w .lies)) (a .up) (front (vec-items (a .body))) → train-of t ≡ record { up = b .up; body = x ∷ vec-items (b .body) } →
+    trains-inside (vec-items (written w i t .trains)) ≡ true
+go-inside-still p w i x a b t q s g e f h k =
+    inside-set (vec-items (w .trains)) _ i t (farther p (marks (w .lies)) (trains-of (vec-items (w .trains)) i)) refl
+    (went-on p w i x a b t (go-under p (vec-len (w .trains)) (world-of w) i g) e f h k) s (farther-inside p w i g q s)
+
+pub go-done : (p : Plan) (w v : Held-world) (i x : ℕ) (a b t : Held-train) (d : Bool) → p .sections ≤ 64 → trains-inside (vec-items (w .trains)) ≡ true →
+    d ≡ can p (vec-len (w .trains)) (world-of w) (Goes i) → d ≡ true → a ≡ getD (vec-items (w .trains)) i a → b ≡ getD (vec-items (w .trains)) i b →
+    x ≡ beyond p (marks (w .lies)) (a .up) (front (vec-items (a .body))) → train-of t ≡ record { up = b .up; body = x ∷ vec-items (b .body) } → Noted p (written w i t) v →
+    Happened p w v (Goes i)
+unfolding happens state-after lies-after trains-after
+go-done p w v i x a b t d q s g j e f h k n =
+    let l = go-under p (vec-len (w .trains)) (world-of w) i (sym g ∙ j) in
+    note-done p w v i t (farther p (marks (w .lies)) (trains-of (vec-items (w .trains)) i)) (Goes i) d l (went-on p w i x a b t l e f h k) n refl refl refl g j s
+    (farther-inside p w i (sym g ∙ j) q s)
+
+-- its end draws up
+drew : (t r u : Train) → t ≡ r → u ≡ record { up = t .up; body = without-last (t .body) } → u ≡ record { up = r .up; body = without-last (r .body) }
 drew t r u e h = h ∙ ap (λ (z : Train). record { up = z .up; body = without-last (z .body) }) e
 
-pub turned-round : (t r u : Train) → t ≡ r → u ≡ record { up = not (t .up); body = reversed (t .body) } → u ≡ record { up = not (r .up); body = reversed (r .body) }
+pub draw-inside-still : (p : Plan) (w : Held-world) (i : ℕ) (b t : Held-train) → trains-inside (vec-items (w .trains)) ≡ true → can p (vec-len (w .trains)) (world-of w) (Draws i) ≡ true →
+    b ≡ getD (vec-items (w .trains)) i b → train-of t ≡ record { up = b .up; body = without-last (vec-items (b .body)) } → trains-inside (vec-items (written w i t .trains)) ≡ true
+draw-inside-still p w i b t s g e k =
+    let l = draw-under p (vec-len (w .trains)) (world-of w) i g in
+    inside-set (vec-items (w .trains)) _ i t _ refl (drew (train-of b) (trains-of (vec-items (w .trains)) i) (train-of t) (here w i b l e) k) s
+    (cut-inside (trains-of (vec-items (w .trains)) i .body) (inside-at (vec-items (w .trains)) i s))
+
+pub draw-done : (p : Plan) (w v : Held-world) (i : ℕ) (b t : Held-train) (d : Bool) → trains-inside (vec-items (w .trains)) ≡ true →
+    d ≡ can p (vec-len (w .trains)) (world-of w) (Draws i) → d ≡ true → b ≡ getD (vec-items (w .trains)) i b →
+    train-of t ≡ record { up = b .up; body = without-last (vec-items (b .body)) } → Noted p (written w i t) v → Happened p w v (Draws i)
+unfolding happens state-after lies-after trains-after
+draw-done p w v i b t d s g j e k n =
+    let l = draw-under p (vec-len (w .trains)) (world-of w) i (sym g ∙ j) in
+    note-done p w v i t _ (Draws i) d l (drew (train-of b) (trains-of (vec-items (w .trains)) i) (train-of t) (here w i b l e) k) n refl refl refl g j s
+    (cut-inside (trains-of (vec-items (w .trains)) i .body) (inside-at (vec-items (w .trains)) i s))
+
+-- it turns round
+turned-round : (t r u : Train) → t ≡ r → u ≡ record { up = not (t .up); body = reversed (t .body) } → u ≡ record { up = not (r .up); body = reversed (r .body) }
 turned-round t r u e h = h ∙ ap (λ (z : Train). record { up = not (z .up); body = reversed (z .body) }) e
 
-pub went : (t r u : Train) → t ≡ r → u ≡ record { up = t .up; body = [] } → u ≡ record { up = r .up; body = [] }
+pub reverse-done : (p : Plan) (w : Held-world) (i : ℕ) (b t : Held-train) (d : Bool) → trains-inside (vec-items (w .trains)) ≡ true →
+    d ≡ can p (vec-len (w .trains)) (world-of w) (Reverses i) → d ≡ true → b ≡ getD (vec-items (w .trains)) i b →
+    train-of t ≡ record { up = not (b .up); body = reversed (vec-items (b .body)) } → Happened p w (written w i t) (Reverses i)
+unfolding happens state-after lies-after trains-after
+reverse-done p w i b t d s g j e k =
+    let l = reverse-under p (vec-len (w .trains)) (world-of w) i (sym g ∙ j) in
+    move-done p w i t _ (Reverses i) d l (turned-round (train-of b) (trains-of (vec-items (w .trains)) i) (train-of t) (here w i b l e) k) refl refl refl g j s
+    (reversed-inside (trains-of (vec-items (w .trains)) i .body) (inside-at (vec-items (w .trains)) i s))
+
+-- it comes in
+came : (up : Bool) (x : ℕ) (t r u : Train) → t ≡ r → r .body ≡ [] → u ≡ record { up = up; body = t .body ++ x ∷ [] } → u ≡ record { up = up; body = x ∷ [] }
+came up x t r u e n h = h ∙ ap (λ (z : List ℕ). record { up = up; body = z ++ x ∷ [] }) (ap (λ (z : Train). z .body) e ∙ n)
+
+pub come-done : (p : Plan) (w : Held-world) (i : ℕ) (up : Bool) (x : ℕ) (b t : Held-train) (d : Bool) → p .sections ≤ 64 → trains-inside (vec-items (w .trains)) ≡ true →
+    d ≡ can p (vec-len (w .trains)) (world-of w) (Comes i up x) → d ≡ true → b ≡ getD (vec-items (w .trains)) i b →
+    train-of t ≡ record { up = up; body = vec-items (b .body) ++ x ∷ [] } → Happened p w (written w i t) (Comes i up x)
+unfolding happens state-after lies-after trains-after
+come-done p w i up x b t d q s g j e k =
+    let l = come-under p (vec-len (w .trains)) (world-of w) i up x (sym g ∙ j) in
+    let z = empty-nil (trains-of (vec-items (w .trains)) i .body) (come-nowhere p (vec-len (w .trains)) (world-of w) i up x (sym g ∙ j)) in
+    move-done p w i t (record { up = up; body = x ∷ [] }) (Comes i up x) d l (came up x (train-of b) (trains-of (vec-items (w .trains)) i) (train-of t) (here w i b l e) z k) refl refl refl g j s
+    (cons-inside x [] (small-section p (vec-len (w .trains)) (world-of w) i up x (sym g ∙ j) q) none-inside)
+
+-- it leaves
+went : (t r u : Train) → t ≡ r → u ≡ record { up = t .up; body = [] } → u ≡ record { up = r .up; body = [] }
 went t r u e h = h ∙ ap (λ (z : Train). record { up = z .up; body = [] }) e
+
+pub leave-done : (p : Plan) (w : Held-world) (i : ℕ) (b t : Held-train) (d : Bool) → trains-inside (vec-items (w .trains)) ≡ true →
+    d ≡ can p (vec-len (w .trains)) (world-of w) (Leaves i) → d ≡ true → b ≡ getD (vec-items (w .trains)) i b →
+    train-of t ≡ record { up = b .up; body = [] } → Happened p w (written w i t) (Leaves i)
+unfolding happens state-after lies-after trains-after
+leave-done p w i b t d s g j e k =
+    let l = leave-under p (vec-len (w .trains)) (world-of w) i (sym g ∙ j) in
+    move-done p w i t _ (Leaves i) d l (went (train-of b) (trains-of (vec-items (w .trains)) i) (train-of t) (here w i b l e) k) refl refl refl g j s none-inside
 
 -- a point that turned
 pub turned-marks : (bs : List Bool) (q : ℕ) (b : Bool) (f : Positions) → q < length bs → b ≡ f q → marks (set bs q b) ≡ (λ k. pick (eqb k q) (f k) (marks bs k))
@@ -207,14 +324,6 @@ told-asked p n w v a b s left r h e f x y z =
           (ap marks y) (ap (λ u. trains-of (vec-items u)) z);
       not-done = λ k. same-world _ _ _ _ _ _ (ap state-of (x ∙ h .unchanged (sym (h .done?) ∙ k))) (ap marks y) (ap (λ u. trains-of (vec-items u)) z);
     }
-
--- what is seen in 64 places is all that is occupied
-pub seen-all : (ts : List Held-train) (n : ℕ) → trains-inside ts ≡ true → within (occupied n (trains-of ts)) ≡ occupied n (trains-of ts)
-seen-all ts n h = fun-ext (λ x. go x (ltb x 64) refl)
-  where
-    go : (x : ℕ) (b : Bool) → ltb x 64 ≡ b → b && occupied n (trains-of ts) x ≡ occupied n (trains-of ts) x
-    go x true e = refl
-    go x false e = sym (vacant-outside ts n x h (grind arith))
 
 pub happens-can : (p : Plan) (n : ℕ) (w : World) (e : Event) → happens p n w e ≡ true → can p n w e ≡ true
 unfolding happens can

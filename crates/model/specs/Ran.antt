@@ -4,16 +4,12 @@ use mathlib.Core.Bool.{Bool, true, false}
 use mathlib.Core.List.{List, [], _∷_}
 use Prim.Native.Nat.{ℕ, min, _<_}
 use lib.ListN.{length, getD, take}
-use Rattle.std.specs.Of.Vec.{vec-items, vec-len}
 use Rattle.plan.specs.Plan.{pick, Plan, Positions}
 use Rattle.interlocking.specs.declared.Request.the-variants.{Ask}
 use Rattle.model.specs.World.{World, Lawful, after}
-use Rattle.model.specs.Held.{nowhere, trains-inside, trains-of}
 use Rattle.model.specs.Steps.{happens}
-use Rattle.model.specs.World.{Train}
 use Rattle.model.specs.declared.Event.{Event}
 use Rattle.model.specs.declared.Event.the-variants.{Asked}
-use Rattle.model.specs.declared.train.Train.{Train as Held-train}
 
 -- past the end of a row
 abbrev pub no-event : Event
@@ -39,9 +35,3 @@ pub record Played (p : Plan) (t : Positions) (events : List Event) (answers : Li
 pub record Ran (p : Plan) (t : Positions) (events : List Event) (budget : ℕ) (answers : List Bool) (w : World) : Type 0 where
   pub count : length answers ≡ min budget (length events)
   pub played : Played p t events answers w
-
--- 16 trains, none of them anywhere
-pub record Nowhere (count : ℕ) (ts : List Held-train) : Type 0 where
-  pub long : length ts ≡ count
-  pub none : (i : ℕ) → trains-of ts i ≡ nowhere
-  pub inside : trains-inside ts ≡ true

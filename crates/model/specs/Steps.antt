@@ -10,8 +10,10 @@ use Rattle.plan.specs.Plan.{Plan}
 use Rattle.interlocking.specs.State.{does}
 use Rattle.interlocking.specs.Says.{state-of}
 use Rattle.occupancy.specs.Notes.{notes}
-use Rattle.model.specs.World.{Train, World, occupied, can, next, with-train}
-use Rattle.model.specs.Held.{all-inside, occupied-in, trains-inside, trains-of, world-of}
+use Rattle.model.specs.World.{World, can, next}
+use Rattle.trains.specs.Trains.{Train, occupied, with-train}
+use Rattle.model.specs.Held.{occupied-in, world-of}
+use Rattle.trains.specs.Held.{all-inside, trains-inside, trains-of}
 use Rattle.model.specs.declared.Event.{Event}
 use Rattle.model.specs.declared.Event.the-variants.{Asked, Turns, Goes, Draws, Reverses, Comes, Leaves}
 use Rattle.model.specs.declared.world.World.{World as Held-world}
@@ -33,7 +35,7 @@ pub record Told (p : Plan) (n : ℕ) (old new : World) (e : Event) (b : Bool) : 
   pub not-done : b ≡ false → new ≡ old
 
 -- there are as many trains as before, in sections below 64
-pub record Sound (old new : Held-world) : Type 0 where
+pub record Stays-inside (old new : Held-world) : Type 0 where
   pub count : vec-len (new .trains) ≡ vec-len (old .trains)
   pub inside : trains-inside (vec-items (new .trains)) ≡ true
 

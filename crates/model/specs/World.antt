@@ -1,55 +1,23 @@
 -- Trains that keep to signals, points that turn when they like, and all that can happen. Assumes nothing: these are definitions.
 use mathlib.Core.Path.{_≡_}
 use mathlib.Core.Bool.{Bool, true, false, _&&_, _||_, not}
-use mathlib.Core.List.{List, [], _∷_, _++_}
-use Prim.Native.Nat.{ℕ, zero, suc, _+_, _*_, _-_, _≤_, _<_}
+use mathlib.Core.List.{List, [], _∷_}
+use Prim.Native.Nat.{ℕ, _≤_}
 use lib.Dec.{ltb, leb, eqb}
-use lib.ListN.{length, getD}
-use Rattle.plan.specs.Plan.{pick, sameb, Route, Plan, Positions, beyond, Joined, route, among, last-of}
-use Rattle.plan.specs.declared.Need.{Need}
-use Rattle.interlocking.specs.declared.Stage.{Stage}
+use lib.ListN.{length}
+use Rattle.plan.specs.Plan.{pick, Plan, Positions, beyond, last-of}
 use Rattle.model.specs.declared.Event.{Event}
 use Rattle.model.specs.declared.Event.the-variants.{Asked, Turns, Goes, Draws, Reverses, Comes, Leaves}
-use Rattle.interlocking.specs.State.{is-open, State, Occupancy, acts, at-rest}
-use Rattle.interlocking.specs.declared.Request.{Request}
+use Rattle.interlocking.specs.State.{State, acts, at-rest}
 use Rattle.occupancy.specs.Notes.{notes}
-
--- a train is nowhere, or stands in sections, its front first
-pub record Train : Type 0 where
-  pub up : Bool
-  pub body : List ℕ
+pub use Rattle.trains.specs.Trains.{Train}
+unfoldable pub use Rattle.trains.specs.Trains.{occupied, front, without-last, reversed, empty, open-here, with-train}
 
 -- the interlocking, how the points really lie, and the trains by their numbers
 pub record World : Type 0 where
   pub interlocking : State
   pub lies : Positions
   pub trains : ℕ → Train
-
-unfoldable pub occupied : ℕ → (ℕ → Train) → Occupancy
-occupied zero ts x = false
-occupied (suc n) ts x = among x (ts n .body) || occupied n ts x
-
-unfoldable pub front : List ℕ → ℕ
-front [] = 0
-front (x ∷ xs) = x
-
-unfoldable pub without-last : List ℕ → List ℕ
-without-last [] = []
-without-last (x ∷ []) = []
-without-last (x ∷ (y ∷ ys)) = x ∷ without-last (y ∷ ys)
-
-unfoldable pub reversed : List ℕ → List ℕ
-reversed [] = []
-reversed (x ∷ xs) = reversed xs ++ (x ∷ [])
-
-unfoldable pub empty : List ℕ → Bool
-empty [] = true
-empty (x ∷ xs) = false
-
--- some route that begins here, this way, may still be entered
-unfoldable pub open-here : Plan → State → Bool → ℕ → ℕ → Bool
-open-here p h up x zero = false
-open-here p h up x (suc r) = (is-open (h .stage r) && (eqb (route p r .begin) x && sameb (route p r .up) up)) || open-here p h up x r
 
 -- can it happen, trains keeping to signals: a front passes a signal only if a route from there is open; a train turns round only at a signal;
 -- one comes in at an edge that is free and not locked, its way in; one leaves that stands in one section with outside beyond its front
@@ -65,9 +33,6 @@ can p n w (Comes i up x) =
     ltb i n && (empty (w .trains i .body) && (ltb x (p .sections) && (p .edge x && (p .signal up x && (eqb (w .interlocking .lock x) 0 && not (occupied n (w .trains) x))))))
 can p n w (Leaves i) =
     ltb i n && (not (empty (w .trains i .body)) && (empty (without-last (w .trains i .body)) && leb (p .sections) (beyond p (w .lies) (w .trains i .up) (front (w .trains i .body)))))
-
-unfoldable pub with-train : (ℕ → Train) → ℕ → Bool → List ℕ → ℕ → Train
-with-train ts i up b j = pick (eqb j i) (record { up = up; body = b }) (ts j)
 
 unfoldable pub trains-after : Plan → World → Event → ℕ → Train
 trains-after p w (Asked a) = w .trains

@@ -1,44 +1,24 @@
 // What can happen in a world.
 ghost use mathlib.Core.Path.{_≡_};
-ghost use Rattle.interlocking.specs.Says.{state-of};
 ghost use Rattle.model.specs.declared.Event.the-variants.{Comes, Draws, Goes, Leaves, Reverses, Turns};
-ghost use Rattle.model.specs.Held.{may-enter, occupied-in, within, world-of};
+ghost use Rattle.model.specs.Held.{occupied-in, world-of};
+ghost use Rattle.trains.specs.Held.{within};
 ghost use Rattle.model.specs.World.{can};
 ghost use Rattle.plan.specs.Plan.{marks};
 ghost use Rattle.plan.specs.View.{plan-of};
 ghost use Rattle.std.specs.Of.Vec.{vec-len};
 use crate::Event;
 use crate::world::World;
-use interlocking::Interlocking;
-use plan::read::mark_at;
 use plan::view::Plan;
-
-// Is it an edge with a signal that way, not locked and not occupied?
-fn may_enter(
-    plan: Plan<'_>,
-    interlocking: &Interlocking,
-    occupied: &[bool],
-    up: bool,
-    x: u16,
-) -> bool
-    ensures { λ r. ⌜ r ≡ may-enter (plan-of (plan .entry)) (state-of (now (interlocking .entry))) (marks (now (occupied .entry))) up x ⌝ }
-{
-    let at = usize::from(x);
-    let locked = interlocking.lock_of(at) != 0;
-    plan.edge(x) & (plan.signal(up, x) & (!locked & !mark_at(occupied, at)))
-}
+use trains::fleet::occupancy;
+use trains::track::may_enter;
 
 impl World {
     // The sections that trains stand in, of 64.
     pub fn occupancy(&self) -> [bool; 64]
         ensures { λ r. ⌜ marks r ≡ within (occupied-in (now (self .entry))) ⌝ }
     {
-        let mut occupied = [false; 64];
-        let n = self.trains.len();
-        for i in 0..n {
-            self.trains[i].mark(&mut occupied);
-        }
-        occupied
+        occupancy(self.trains.as_slice())
     }
 
     pub(crate) fn can_turn(&self, plan: Plan<'_>, q: usize) -> bool

@@ -5,8 +5,6 @@ pub mod can;
 pub mod run;
 pub mod station;
 pub mod step;
-pub mod track;
-pub mod train;
 pub mod world;
 
 // What can happen: a request, a point that turns, and what trains do. Trains and points go by their numbers; a train that comes in is said with its way (true for up) and its section.

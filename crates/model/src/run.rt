@@ -1,8 +1,8 @@
 // A station from its start, one event after the other.
 ghost use mathlib.Core.Path.{_≡_};
 ghost use Prim.Native.Nat.{min};
-ghost use Rattle.model.specs.Held.{trains-of};
-ghost use Rattle.model.specs.Ran.{Nowhere, Ran};
+ghost use Rattle.trains.specs.Held.{trains-of};
+ghost use Rattle.model.specs.Ran.{Ran};
 ghost use Rattle.model.specs.Stations.{station-plan, station-world};
 ghost use Rattle.model.specs.Steps.{Told};
 ghost use Rattle.model.specs.World.{empty-station};
@@ -13,29 +13,18 @@ ghost use Rattle.std.specs.Results.{Cases};
 ghost use Rattle.std.specs.Vec.{made};
 use crate::Event;
 use crate::station::Station;
-use crate::train::Train;
 use crate::world::World;
 use interlocking::Interlocking;
 use plan::view::Plan;
 use std::alloc::AllocError;
 use std::alloc::Global;
+use trains::fleet::no_trains;
 
 // What a run leaves: the station, and for each event whether it was done.
 #[derive(Drop)]
 pub struct Outcome<'a> {
     pub station: Station<'a>,
     pub answers: Vec<bool>,
-}
-
-// 16 trains, none of them anywhere.
-fn no_trains(heap: Global) -> Result<Vec<Train>, AllocError>
-    ensures { λ r. ⌜ made r (λ v. Nowhere 16 (vec-items v)) ⌝ }
-{
-    let mut trains = Vec::new(heap);
-    for _ in 0..16usize {
-        trains.push(Train::nowhere(heap))?;
-    }
-    Ok(trains)
 }
 
 impl<'a> Station<'a> {
@@ -85,7 +74,7 @@ impl<'a> Station<'a> {
         ensures { λ r. ⌜ r ≡ trains-of (vec-items (now (self .entry) .world .trains)) i .up ⌝ }
     {
         if i < 16 {
-            self.world.trains[i].up
+            self.world.trains[i].goes_up()
         } else {
             true
         }
@@ -96,7 +85,7 @@ impl<'a> Station<'a> {
         ensures { λ r. ⌜ now r ≡ trains-of (vec-items (now (self .entry) .world .trains)) i .body ⌝ }
     {
         if i < 16 {
-            self.world.trains[i].body.as_slice()
+            self.world.trains[i].sections()
         } else {
             &[]
         }

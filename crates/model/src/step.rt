@@ -2,8 +2,8 @@
 ghost use mathlib.Core.Bool.{true};
 ghost use mathlib.Core.Path.{_≡_};
 ghost use Rattle.model.specs.declared.Event.the-variants.{Asked, Comes, Draws, Goes, Leaves, Reverses, Turns};
-ghost use Rattle.model.specs.Held.{trains-inside};
-ghost use Rattle.model.specs.Steps.{Noted, Sound, Steps};
+ghost use Rattle.trains.specs.Held.{trains-inside};
+ghost use Rattle.model.specs.Steps.{Noted, Stays-inside, Steps};
 ghost use Rattle.plan.specs.View.{plan-of};
 ghost use Rattle.std.specs.Of.Vec.{vec-items};
 use crate::Event;
@@ -35,7 +35,7 @@ impl World {
     fn asked(&mut self, plan: Plan<'_>, request: Request) -> Result<bool, AllocError>
         requires { ⌜ trains-inside (vec-items (now self .trains)) ≡ true ⌝ }
         ensures steps { λ r. ⌜ Steps (plan-of (plan .entry)) (now (self .entry)) (now (self .exit)) (Asked request) r ⌝ }
-        ensures sound { λ _. ⌜ Sound (now (self .entry)) (now (self .exit)) ⌝ }
+        ensures inside { λ _. ⌜ Stays-inside (now (self .entry)) (now (self .exit)) ⌝ }
     {
         let occupied = self.occupancy();
         let lies = self.lies;
@@ -48,7 +48,7 @@ impl World {
     fn turns(&mut self, plan: Plan<'_>, q: usize) -> Result<bool, AllocError>
         requires { ⌜ trains-inside (vec-items (now self .trains)) ≡ true ⌝ }
         ensures steps { λ r. ⌜ Steps (plan-of (plan .entry)) (now (self .entry)) (now (self .exit)) (Turns q) r ⌝ }
-        ensures sound { λ _. ⌜ Sound (now (self .entry)) (now (self .exit)) ⌝ }
+        ensures inside { λ _. ⌜ Stays-inside (now (self .entry)) (now (self .exit)) ⌝ }
     {
         if !self.can_turn(plan, q) {
             return Ok(false);
@@ -61,7 +61,7 @@ impl World {
     fn goes(&mut self, plan: Plan<'_>, i: usize) -> Result<bool, AllocError>
         requires { ⌜ trains-inside (vec-items (now self .trains)) ≡ true ⌝ }
         ensures steps { λ r. ⌜ Steps (plan-of (plan .entry)) (now (self .entry)) (now (self .exit)) (Goes i) r ⌝ }
-        ensures sound { λ _. ⌜ Sound (now (self .entry)) (now (self .exit)) ⌝ }
+        ensures inside { λ _. ⌜ Stays-inside (now (self .entry)) (now (self .exit)) ⌝ }
     {
         if !self.can_go(plan, i) {
             return Ok(false);
@@ -75,7 +75,7 @@ impl World {
     fn draws(&mut self, plan: Plan<'_>, i: usize) -> Result<bool, AllocError>
         requires { ⌜ trains-inside (vec-items (now self .trains)) ≡ true ⌝ }
         ensures steps { λ r. ⌜ Steps (plan-of (plan .entry)) (now (self .entry)) (now (self .exit)) (Draws i) r ⌝ }
-        ensures sound { λ _. ⌜ Sound (now (self .entry)) (now (self .exit)) ⌝ }
+        ensures inside { λ _. ⌜ Stays-inside (now (self .entry)) (now (self .exit)) ⌝ }
     {
         if !self.can_draw(plan, i) {
             return Ok(false);
@@ -88,7 +88,7 @@ impl World {
     fn reverses(&mut self, plan: Plan<'_>, i: usize) -> Result<bool, AllocError>
         requires { ⌜ trains-inside (vec-items (now self .trains)) ≡ true ⌝ }
         ensures steps { λ r. ⌜ Steps (plan-of (plan .entry)) (now (self .entry)) (now (self .exit)) (Reverses i) r ⌝ }
-        ensures sound { λ _. ⌜ Sound (now (self .entry)) (now (self .exit)) ⌝ }
+        ensures inside { λ _. ⌜ Stays-inside (now (self .entry)) (now (self .exit)) ⌝ }
     {
         if !self.can_reverse(plan, i) {
             return Ok(false);
@@ -100,7 +100,7 @@ impl World {
     fn comes(&mut self, plan: Plan<'_>, i: usize, up: bool, x: usize) -> Result<bool, AllocError>
         requires { ⌜ trains-inside (vec-items (now self .trains)) ≡ true ⌝ }
         ensures steps { λ r. ⌜ Steps (plan-of (plan .entry)) (now (self .entry)) (now (self .exit)) (Comes i up x) r ⌝ }
-        ensures sound { λ _. ⌜ Sound (now (self .entry)) (now (self .exit)) ⌝ }
+        ensures inside { λ _. ⌜ Stays-inside (now (self .entry)) (now (self .exit)) ⌝ }
     {
         if !self.can_come(plan, i, up, x) {
             return Ok(false);
@@ -112,7 +112,7 @@ impl World {
     fn leaves(&mut self, plan: Plan<'_>, i: usize) -> Result<bool, AllocError>
         requires { ⌜ trains-inside (vec-items (now self .trains)) ≡ true ⌝ }
         ensures steps { λ r. ⌜ Steps (plan-of (plan .entry)) (now (self .entry)) (now (self .exit)) (Leaves i) r ⌝ }
-        ensures sound { λ _. ⌜ Sound (now (self .entry)) (now (self .exit)) ⌝ }
+        ensures inside { λ _. ⌜ Stays-inside (now (self .entry)) (now (self .exit)) ⌝ }
     {
         if !self.can_leave(plan, i) {
             return Ok(false);
@@ -125,7 +125,7 @@ impl World {
     pub(crate) fn step(&mut self, plan: Plan<'_>, event: Event) -> Result<bool, AllocError>
         requires { ⌜ trains-inside (vec-items (now self .trains)) ≡ true ⌝ }
         ensures steps { λ r. ⌜ Steps (plan-of (plan .entry)) (now (self .entry)) (now (self .exit)) event r ⌝ }
-        ensures sound { λ _. ⌜ Sound (now (self .entry)) (now (self .exit)) ⌝ }
+        ensures inside { λ _. ⌜ Stays-inside (now (self .entry)) (now (self .exit)) ⌝ }
     {
         match event {
             Event::Asked(request) => self.asked(plan, request),

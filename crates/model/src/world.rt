@@ -1,6 +1,6 @@
 // The trains, the points and the interlocking of one station.
-use crate::train::Train;
 use interlocking::Interlocking;
+use trains::train::Train;
 
 #[derive(Drop)]
 pub struct World {

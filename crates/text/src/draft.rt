@@ -1,10 +1,14 @@
 // A plan while its lines are read.
-use crate::NUMBERED;
-use crate::statement::Statement;
+ghost use Rattle.plan.specs.Numbers.{refused};
+ghost use Rattle.rows.specs.Rows.{Not-length};
+ghost use Rattle.std.specs.Of.Vec.{vec-items};
+ghost use Rattle.std.specs.Vec.{made};
 use plan::End;
 use rows::RouteText;
 use rows::Rows;
 use rows::Sizes;
+use statement::NUMBERED;
+use statement::Statement;
 use std::alloc::AllocError;
 use std::alloc::Global;
 use words::Word;
@@ -183,7 +187,9 @@ impl Draft {
     }
 
     // The numbers of the plan.
-    pub fn numbers(mut self, heap: Global) -> Result<Vec<u16>, AllocError> {
+    pub fn numbers(mut self, heap: Global) -> Result<Vec<u16>, AllocError>
+        ensures { λ r. ⌜ made r (λ v. Not-length (refused (vec-items v))) ⌝ }
+    {
         let sizes = Sizes {
             sections: self.sections.count,
             points: self.points.count,

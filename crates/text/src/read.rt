@@ -1,16 +1,23 @@
 // A plan's text to its numbers.
+ghost use Rattle.plan.specs.Numbers.{refused};
+ghost use Rattle.rows.specs.Rows.{Not-length};
+ghost use Rattle.std.specs.Of.Vec.{vec-items};
+ghost use Rattle.std.specs.Vec.{made};
 use crate::draft::Draft;
-use crate::statement::WORDS;
-use crate::statement::statement_of;
+use statement::WORDS;
+use statement::statement_of;
 use std::alloc::Global;
+use words::Token;
 use words::cursor::stated;
 use words::cursor::tokens;
 use words::fault::Fault;
 use words::fault::Kind;
 use words::fault::kind_of;
 
-// The numbers that a text says, which may still be refused, or the line that can't be read.
-pub fn read_plan(heap: Global, text: &str) -> Result<Vec<u16>, Fault<'_>> {
+// The numbers that a text says, which may still be refused, but not for how many they are, or the line that can't be read.
+pub fn read_plan(heap: Global, text: &str) -> Result<Vec<u16>, Fault<'_>>
+    ensures { λ r. ⌜ made r (λ v. Not-length (refused (vec-items v))) ⌝ }
+{
     let mut draft = Draft::new();
     let mut last = 1;
     for (i, line) in text.lines().enumerate() {
@@ -38,13 +45,23 @@ fn read_line<'a>(
     line: usize,
     text: &'a str,
 ) -> Result<(), Kind<'a>> {
-    let Ok(tokens) = tokens(heap, text) else {
-        return Err(Kind::Memory);
-    };
+    match tokens(heap, text) {
+        Ok(all) => read_tokens(draft, line, text, &all),
+        Err(_) => Err(Kind::Memory),
+    }
+}
+
+// Takes the tokens of one line, which may be empty.
+fn read_tokens<'a>(
+    draft: &mut Draft,
+    line: usize,
+    text: &'a str,
+    tokens: &[Token],
+) -> Result<(), Kind<'a>> {
     if tokens.is_empty() {
         return Ok(());
     }
-    match statement_of(&tokens) {
+    match statement_of(tokens) {
         Ok(said) => draft.take(line, said),
         Err(wrong) => Err(kind_of(text, wrong, &WORDS)),
     }

@@ -1,6 +1,7 @@
 // Texts from tables, read and answered, and plans written and read again.
 use plan::read::refusal;
 use plan::view::Plan;
+use print::write_plan;
 use script::EventText;
 use script::EventTextDisplay;
 use script::read_events;
@@ -11,7 +12,6 @@ use std::alloc::Global;
 use std::error::AnyError;
 use std::fs;
 use text::read::read_plan;
-use text::write::write_plan;
 use words::fault::FaultDisplay;
 
 // The verdict on numbers, as the judge says it.

@@ -6,4 +6,4 @@ use Rattle.model.proofs.Runs.{start}
 use Rattle.model.proofs.station.Station.new.Needs as need
 
 pub returns : need.returns
-returns c = (refl, start (state-of (c .at-rest-interlocking .result)) (marks (c .args .lies)) _ (c .at-rest-interlocking .ensures) (c .in-Continue-trains .ensures tt))
+returns c = (refl, start (state-of (c .at-rest-interlocking .result)) (marks (c .args .lies)) (vec-items (c .in-Continue-trains .trains)) (c .at-rest-interlocking .ensures) (c .in-Continue-trains .ensures tt))

@@ -1,9 +1,9 @@
 use mathlib.Core.Path.{refl, ap, _∙_}
 use Rattle.std.specs.Of.Vec.{vec-items}
 use Rattle.plan.specs.View.{plan-of}
+use Rattle.trains.proofs.Trains.{seen-all}
 use Rattle.interlocking.specs.Says.{state-of}
 use Rattle.occupancy.specs.Notes.{notes}
-use Rattle.model.proofs.Steps.{seen-all}
 use Rattle.model.proofs.world.World.note.Needs as need
 
 pub returns : need.returns

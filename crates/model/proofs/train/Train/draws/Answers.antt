@@ -1,5 +1,0 @@
-use Rattle.model.proofs.Bodies.{drawn, same-way}
-use Rattle.model.proofs.train.Train.draws.Needs as need
-
-pub returns : need.returns
-returns c = same-way _ _ _ (drawn _ _ _ (c .args .self .now .body .ok .0) (c .pop .ensures .places .1))

@@ -1,5 +1,0 @@
-use Rattle.model.proofs.Bodies.{empty-is}
-use Rattle.model.proofs.train.Train.is_nowhere.Needs as need
-
-pub returns : need.returns
-returns c = empty-is _ _ _ (c .len .ensures) (c .args .self .now .body .ok .0)

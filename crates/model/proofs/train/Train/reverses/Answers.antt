@@ -1,6 +1,0 @@
-use mathlib.Core.Path.{_∙_}
-use Rattle.model.proofs.Bodies.{reversed-is, same-way}
-use Rattle.model.proofs.train.Train.reverses.Needs as need
-
-pub returns : need.returns
-returns c = same-way _ _ _ (c .reverse .ensures .items ∙ reversed-is _)
