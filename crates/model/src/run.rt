@@ -1,7 +1,8 @@
 // A station from its start, one event after the other.
 ghost use mathlib.Core.Path.{_≡_};
 ghost use Prim.Native.Nat.{min};
-ghost use Rattle.trains.specs.Held.{trains-of};
+ghost use Rattle.trains.specs.Held.{trains-of, within};
+ghost use Rattle.model.specs.Held.{occupied-in};
 ghost use Rattle.model.specs.Ran.{Ran};
 ghost use Rattle.model.specs.Stations.{station-plan, station-world};
 ghost use Rattle.model.specs.Steps.{Told};
@@ -67,6 +68,13 @@ impl<'a> Station<'a> {
         ensures { λ r. ⌜ r ≡ now (self .entry) .world .lies ⌝ }
     {
         self.world.lies
+    }
+
+    // The sections that trains stand in.
+    pub fn occupancy(&self) -> [bool; 64]
+        ensures { λ r. ⌜ marks r ≡ within (occupied-in (now (self .entry) .world)) ⌝ }
+    {
+        self.world.occupancy()
     }
 
     // Does a train go up? One that is none does.

@@ -170,10 +170,10 @@ fn row_differs(other: &mut impl Other, numbers: &[u16], events: &[Event]) -> Opt
             match other.note(numbers, &mut theirs, &now) {
                 Some(b) if !other.same((1, 0, 0), b) => return Some(format!("event {i}, {e}: noting gives {b:?}")),
                 Some(_) => {}
-                None => theirs = world.house.to_memory(),
+                None => theirs = world.interlocking.to_memory(),
             }
         }
-        let ours = world.house.to_memory();
+        let ours = world.interlocking.to_memory();
         if ours != theirs {
             return Some(format!("event {i}, {e}: memory, {}", first_difference(&ours, &theirs)));
         }

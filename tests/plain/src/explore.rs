@@ -110,7 +110,7 @@ impl Coder<'_> {
     fn encode(&self, w: &World) -> Option<u128> {
         let mut key: u128 = 0;
         for x in 0..self.plan.sections.len() {
-            let digit = match (w.house.lock[x] as u128, w.house.passed[x]) {
+            let digit = match (w.interlocking.lock[x] as u128, w.interlocking.passed[x]) {
                 (0, true) => return None,
                 (0, false) => 0,
                 (l, passed) => 2 * l - 1 + passed as u128,
@@ -118,10 +118,10 @@ impl Coder<'_> {
             key = key * self.lock + digit;
         }
         for r in 0..self.plan.routes.len() {
-            key = key * self.stage + w.house.stage[r].to_number() as u128;
+            key = key * self.stage + w.interlocking.stage[r].to_number() as u128;
         }
         for q in 0..self.plan.places.len() {
-            key = key * 4 + 2 * w.house.wanted.0[q] as u128 + w.lie.0[q] as u128;
+            key = key * 4 + 2 * w.interlocking.wanted.0[q] as u128 + w.lie.0[q] as u128;
         }
         let mut trains = Vec::with_capacity(self.trains);
         for t in &w.trains {
@@ -144,16 +144,16 @@ impl Coder<'_> {
         let trains: Vec<usize> = (0..self.trains).map(|_| take(self.train)).collect();
         for q in (0..self.plan.places.len()).rev() {
             let digit = take(4);
-            w.house.wanted.0[q] = digit >= 2;
+            w.interlocking.wanted.0[q] = digit >= 2;
             w.lie.0[q] = digit % 2 == 1;
         }
         for r in (0..self.plan.routes.len()).rev() {
-            w.house.stage[r] = Stage::from_number(take(self.stage) as u16);
+            w.interlocking.stage[r] = Stage::from_number(take(self.stage) as u16);
         }
         for x in (0..self.plan.sections.len()).rev() {
             let digit = take(self.lock);
-            w.house.lock[x] = digit.div_ceil(2) as u8;
-            w.house.passed[x] = digit > 0 && digit % 2 == 0;
+            w.interlocking.lock[x] = digit.div_ceil(2) as u8;
+            w.interlocking.passed[x] = digit > 0 && digit % 2 == 0;
         }
         let n = self.plan.sections.len();
         for (t, &digit) in trains.iter().enumerate() {
@@ -170,14 +170,14 @@ impl Coder<'_> {
 fn events(plan: &Plan, world: &World) -> Vec<Event> {
     let mut out = vec![Event::Asked(Request::Tick)];
     for r in 0..plan.routes.len() as u16 {
-        match world.house.stage[r as usize] {
+        match world.interlocking.stage[r as usize] {
             Stage::Idle => out.push(Event::Asked(Request::Ask(r))),
             Stage::Set => out.extend([Event::Asked(Request::Clear(r)), Event::Asked(Request::Back(r))]),
             _ => out.push(Event::Asked(Request::Back(r))),
         }
     }
     for x in 0..plan.sections.len() as u16 {
-        if world.house.lock_of(x) != 0 {
+        if world.interlocking.lock_of(x) != 0 {
             out.push(Event::Asked(Request::Free(x)));
         }
     }

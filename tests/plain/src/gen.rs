@@ -689,14 +689,14 @@ pub fn event(rng: &mut Rng, plan: &Plan, world: &World, habits: Habits) -> Event
 /// Whether an event that can always be done does anything.
 fn useful(world: &World, event: Event) -> bool {
     match event {
-        Event::Turns(q) => world.lie.left(q) != world.house.wanted.left(q),
-        Event::Asked(Request::Tick) => world.house.stage.iter().any(|s| matches!(s, Stage::Falling(_))),
+        Event::Turns(q) => world.lie.left(q) != world.interlocking.wanted.left(q),
+        Event::Asked(Request::Tick) => world.interlocking.stage.iter().any(|s| matches!(s, Stage::Falling(_))),
         _ => true,
     }
 }
 
 fn route_in(rng: &mut Rng, plan: &Plan, world: &World, is: impl Fn(Stage) -> bool) -> u16 {
-    let fit: Vec<u16> = (0..plan.routes.len() as u16).filter(|&r| is(world.house.stage[r as usize])).collect();
+    let fit: Vec<u16> = (0..plan.routes.len() as u16).filter(|&r| is(world.interlocking.stage[r as usize])).collect();
     if fit.is_empty() {
         rng.below(plan.routes.len() + 1) as u16
     } else {
@@ -728,13 +728,13 @@ fn guess(rng: &mut Rng, plan: &Plan, world: &World, trains: usize, running: &[u1
         }
         52..=63 => Event::Asked(Request::Clear(route_in(rng, plan, world, |s| s == Stage::Set))),
         64..=75 => {
-            let fit: Vec<u16> = (0..plan.sections.len() as u16).filter(|&x| world.house.passed[x as usize]).collect();
+            let fit: Vec<u16> = (0..plan.sections.len() as u16).filter(|&x| world.interlocking.passed[x as usize]).collect();
             let x = if fit.is_empty() { rng.below(plan.sections.len()) as u16 } else { *rng.pick(&fit) };
             Event::Asked(Request::Free(x))
         }
         76..=83 => {
             let n = plan.places.len();
-            let fit: Vec<u16> = (0..n as u16).filter(|&q| world.lie.left(q) != world.house.wanted.left(q)).collect();
+            let fit: Vec<u16> = (0..n as u16).filter(|&q| world.lie.left(q) != world.interlocking.wanted.left(q)).collect();
             Event::Turns(if fit.is_empty() { rng.below(n + 1) as u16 } else { *rng.pick(&fit) })
         }
         84..=88 => {

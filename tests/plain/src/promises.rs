@@ -81,7 +81,7 @@ fn standing(plan: &Plan, world: &World) -> Result<(), Broken> {
     }
     for (q, &x) in plan.places.iter().enumerate() {
         let taken = holder.get(x as usize).map_or(false, |&h| h != usize::MAX);
-        if taken && world.lie.0[q] != world.house.wanted.0[q] {
+        if taken && world.lie.0[q] != world.interlocking.wanted.0[q] {
             return Err(Broken::LoosePoint { section: x, point: q as u16 });
         }
     }
@@ -91,12 +91,12 @@ fn standing(plan: &Plan, world: &World) -> Result<(), Broken> {
 fn signals(plan: &Plan, world: &World) -> Result<(), Broken> {
     let seen = world.seen();
     for (r, route) in plan.routes.iter().enumerate() {
-        if !world.house.stage[r].passable() {
+        if !world.interlocking.stage[r].passable() {
             continue;
         }
         let r = r as u16;
         for &section in &route.path {
-            if world.house.lock_of(section) as u16 != r + 1 {
+            if world.interlocking.lock_of(section) as u16 != r + 1 {
                 return Err(Broken::NotLocked { route: r, section });
             }
             if seen.taken(section) {
@@ -133,11 +133,11 @@ fn reachable(plan: &Plan, world: &World) -> Result<(), Broken> {
     let seen = world.seen();
     for (r, route) in plan.routes.iter().enumerate() {
         let which = r as u16;
-        match world.house.stage[r] {
+        match world.interlocking.stage[r] {
             Stage::Idle | Stage::Set => {
-                let mut then = World { house: world.house.clone(), lie: world.lie, trains: Vec::new() };
-                if world.house.stage[r] == Stage::Idle
-                    && !then.house.act(plan, &seen, &world.lie, Request::Ask(which))
+                let mut then = World { interlocking: world.interlocking.clone(), lie: world.lie, trains: Vec::new() };
+                if world.interlocking.stage[r] == Stage::Idle
+                    && !then.interlocking.act(plan, &seen, &world.lie, Request::Ask(which))
                 {
                     continue;
                 }
@@ -145,14 +145,14 @@ fn reachable(plan: &Plan, world: &World) -> Result<(), Broken> {
                     then.step(plan, Event::Turns(n.point));
                 }
                 let lie = then.lie;
-                if !then.house.act(plan, &seen, &lie, Request::Clear(which)) || then.house.stage[r] != Stage::Shown {
+                if !then.interlocking.act(plan, &seen, &lie, Request::Clear(which)) || then.interlocking.stage[r] != Stage::Shown {
                     return Err(Broken::NeverShown { route: which });
                 }
             }
             Stage::Used if route.path.iter().all(|&x| !seen.taken(x)) => {
-                let mut house = world.house.clone();
-                let done = house.act(plan, &seen, &world.lie, Request::Back(which));
-                if !done || house.stage[r] != Stage::Idle || house.lock.iter().any(|&l| l as usize == r + 1) {
+                let mut interlocking = world.interlocking.clone();
+                let done = interlocking.act(plan, &seen, &world.lie, Request::Back(which));
+                if !done || interlocking.stage[r] != Stage::Idle || interlocking.lock.iter().any(|&l| l as usize == r + 1) {
                     return Err(Broken::NeverLetGo { route: which });
                 }
             }
@@ -163,8 +163,8 @@ fn reachable(plan: &Plan, world: &World) -> Result<(), Broken> {
 }
 
 fn further(plan: &Plan, world: &World) -> Result<(), Broken> {
-    for (x, &lock) in world.house.lock.iter().enumerate() {
-        if lock != 0 && world.house.stage[lock as usize - 1] == Stage::Idle {
+    for (x, &lock) in world.interlocking.lock.iter().enumerate() {
+        if lock != 0 && world.interlocking.stage[lock as usize - 1] == Stage::Idle {
             return Err(Broken::LockLeft { section: x as u16, route: lock as u16 - 1 });
         }
     }
@@ -175,9 +175,9 @@ fn further(plan: &Plan, world: &World) -> Result<(), Broken> {
             }
         }
     }
-    let mut again = world.house.clone();
+    let mut again = world.interlocking.clone();
     again.note(plan, &world.seen());
-    if again != world.house {
+    if again != world.interlocking {
         return Err(Broken::NotedLate);
     }
     if world.trains.iter().all(|t| t.cars.is_empty()) {
@@ -188,22 +188,22 @@ fn further(plan: &Plan, world: &World) -> Result<(), Broken> {
 
 /// Without trains, taking back and ticking lead to all routes idle and nothing locked.
 fn all_idle(plan: &Plan, world: &World) -> Result<(), Broken> {
-    let mut house = world.house.clone();
+    let mut interlocking = world.interlocking.clone();
     let seen = world.seen();
     let mut ticks = 0;
     for r in 0..plan.routes.len() {
-        house.act(plan, &seen, &world.lie, Request::Back(r as u16));
-        if let Stage::Falling(n) = house.stage[r] {
+        interlocking.act(plan, &seen, &world.lie, Request::Back(r as u16));
+        if let Stage::Falling(n) = interlocking.stage[r] {
             ticks = ticks.max(n + 1);
         }
     }
     for _ in 0..ticks {
-        house.act(plan, &seen, &world.lie, Request::Tick);
+        interlocking.act(plan, &seen, &world.lie, Request::Tick);
     }
-    if let Some(r) = house.stage.iter().position(|&s| s != Stage::Idle) {
+    if let Some(r) = interlocking.stage.iter().position(|&s| s != Stage::Idle) {
         return Err(Broken::Stuck { route: r as u16 });
     }
-    if let Some(&lock) = house.lock.iter().find(|&&l| l != 0) {
+    if let Some(&lock) = interlocking.lock.iter().find(|&&l| l != 0) {
         return Err(Broken::Stuck { route: lock as u16 - 1 });
     }
     Ok(())
@@ -220,10 +220,10 @@ pub fn share(plan: &Plan, r: u16, s: u16) -> bool {
 pub fn either_order(plan: &Plan, world: &World, r: u16, s: u16) -> bool {
     let seen = world.seen();
     let ask = |first: u16, second: u16| {
-        let mut house = world.house.clone();
-        let a = house.act(plan, &seen, &world.lie, Request::Ask(first));
-        let b = house.act(plan, &seen, &world.lie, Request::Ask(second));
-        (a, b, house)
+        let mut interlocking = world.interlocking.clone();
+        let a = interlocking.act(plan, &seen, &world.lie, Request::Ask(first));
+        let b = interlocking.act(plan, &seen, &world.lie, Request::Ask(second));
+        (a, b, interlocking)
     };
     let (a, b, one) = ask(r, s);
     let (d, c, other) = ask(s, r);

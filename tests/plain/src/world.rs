@@ -80,14 +80,14 @@ impl std::fmt::Display for Event {
 
 #[derive(Clone, PartialEq, Eq, Debug)]
 pub struct World {
-    pub house: State,
+    pub interlocking: State,
     pub lie: Lie,
     pub trains: Vec<Train>,
 }
 
 impl World {
     pub fn new() -> World {
-        World { house: State::new(), lie: Lie([true; POINTS]), trains: vec![Train::default(); TRAINS] }
+        World { interlocking: State::new(), lie: Lie([true; POINTS]), trains: vec![Train::default(); TRAINS] }
     }
 
     pub fn with_trains(n: usize) -> World {
@@ -117,20 +117,20 @@ impl World {
 
     pub fn can(&self, plan: &Plan, event: Event) -> bool {
         match event {
-            Event::Asked(request) => self.house.clone().act(plan, &self.seen(), &self.lie, request),
+            Event::Asked(request) => self.interlocking.clone().act(plan, &self.seen(), &self.lie, request),
             Event::Turns(q) => (q as usize) < plan.places.len(),
             Event::Comes(t, up, x) => {
                 self.trains.get(t as usize).map_or(false, |t| t.cars.is_empty())
                     && plan.edge(x)
                     && plan.signal(up, x)
                     && !self.seen().taken(x)
-                    && self.house.lock_of(x) == 0
+                    && self.interlocking.lock_of(x) == 0
             }
             Event::Goes(t) => self.train(t).map_or(false, |t| {
                 let front = t.cars[0];
                 plan.has(self.beyond(plan, t.up, front))
                     && (!plan.signal(t.up, front)
-                        || plan.routes.iter().zip(&self.house.stage).any(|(route, stage)| {
+                        || plan.routes.iter().zip(&self.interlocking.stage).any(|(route, stage)| {
                             route.begin == front && route.up == t.up && stage.passable()
                         }))
             }),
@@ -146,14 +146,14 @@ impl World {
     pub fn step(&mut self, plan: &Plan, event: Event) -> bool {
         if let Event::Asked(request) = event {
             let seen = self.seen();
-            return self.house.act(plan, &seen, &self.lie, request);
+            return self.interlocking.act(plan, &seen, &self.lie, request);
         }
         if !self.can(plan, event) {
             return false;
         }
         match event {
             Event::Asked(_) => {}
-            Event::Turns(q) => self.lie.0[q as usize] = self.house.wanted.left(q),
+            Event::Turns(q) => self.lie.0[q as usize] = self.interlocking.wanted.left(q),
             Event::Comes(t, up, x) => self.trains[t as usize] = Train { cars: vec![x], up },
             Event::Goes(t) => {
                 let train = &self.trains[t as usize];
@@ -177,12 +177,12 @@ impl World {
 
     pub fn note(&mut self, plan: &Plan) {
         let seen = self.seen();
-        self.house.note(plan, &seen);
+        self.interlocking.note(plan, &seen);
     }
 
     /// The world in numbers: memory, how points lie, and for each train 1 for up, how many sections, and the sections.
     pub fn to_numbers(&self) -> Vec<u16> {
-        let mut xs = self.house.to_memory();
+        let mut xs = self.interlocking.to_memory();
         xs.extend(self.lie.0.iter().map(|&l| l as u16));
         for t in &self.trains {
             xs.push(t.up as u16);

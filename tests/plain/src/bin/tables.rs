@@ -31,11 +31,11 @@ impl Run {
     }
 
     fn stage(&self, r: usize) -> Stage {
-        self.world.house.stage[r]
+        self.world.interlocking.stage[r]
     }
 
     fn locked(&self, sections: &[usize], r: u8) -> bool {
-        (0..64).all(|x| (self.world.house.lock[x] == r + 1) == sections.contains(&x))
+        (0..64).all(|x| (self.world.interlocking.lock[x] == r + 1) == sections.contains(&x))
     }
 }
 
@@ -62,8 +62,8 @@ fn main() {
         && t.stage(5) == Stage::Set
         && t.locked(&[1, 2], 0)
         && t.locked(&[3, 4], 5)
-        && !t.world.house.wanted.left(1)
-        && t.world.house.wanted.left(0);
+        && !t.world.interlocking.wanted.left(1)
+        && t.world.interlocking.wanted.left(0);
     say("ask 0, ask 5", pass && t.kept);
 
     let mut t = Run::new(2);
@@ -75,7 +75,7 @@ fn main() {
     say("ask 5, clear 5", pass && t.kept);
 
     let mut t = Run::new(2);
-    let pass = through_the_loop(&mut t) && t.world.house.lock[1] == 0;
+    let pass = through_the_loop(&mut t) && t.world.interlocking.lock[1] == 0;
     say("a train goes to 2 and 1 is freed after it", pass && t.kept);
 
     let mut t = Run::new(2);
