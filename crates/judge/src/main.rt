@@ -81,7 +81,11 @@ fn draw(rt: &LibcRuntime, numbers: &[u16], file: &str) -> Result<(), AnyError> {
 }
 
 // Judges one text; true if it is a sound plan.
-fn judge_text(rt: &LibcRuntime, options: Options<'_>, source: Source<'_>) -> Result<bool, AnyError> {
+fn judge_text(
+    rt: &LibcRuntime,
+    options: Options<'_>,
+    source: Source<'_>,
+) -> Result<bool, AnyError> {
     let name = source.name;
     let numbers = match read_plan(rt.alloc(), source.text) {
         Ok(numbers) => numbers,

@@ -115,7 +115,12 @@ fn play_all<'a, W: Write>(
 }
 
 // Plays a script in the station of a plan; false where a promise does not hold.
-fn play(rt: &LibcRuntime, plan: Plan<'_>, script: &Script, options: &Options) -> Result<bool, AnyError> {
+fn play(
+    rt: &LibcRuntime,
+    plan: Plan<'_>,
+    script: &Script,
+    options: &Options,
+) -> Result<bool, AnyError> {
     let mut out = BufWriter::new(rt.stdout());
     let (station, good) = if options.picture | options.check {
         play_watched(rt, &mut out, plan, script, options)?

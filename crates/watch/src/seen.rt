@@ -3,7 +3,7 @@ ghost use lib.ListN.{set};
 ghost use mathlib.Core.Bool.{false, true};
 ghost use mathlib.Core.Path.{_≡_};
 ghost use Prim.Native.Nat.{_<_};
-ghost use Rattle.model.specs.Held.{mark-all};
+ghost use Rattle.trains.specs.Held.{mark-all};
 ghost use Rattle.model.specs.Stations.{station-world};
 ghost use Rattle.model.specs.World.{occupied};
 ghost use Rattle.plan.specs.Plan.{among, marks};

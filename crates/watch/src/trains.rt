@@ -16,10 +16,10 @@ use crate::Broken;
 use crate::seen::train_in;
 use interlocking::Interlocking;
 use model::station::Station;
-use model::track::beyond;
 use plan::read::found;
 use plan::read::mark_at;
 use plan::view::Plan;
+use trains::track::beyond;
 
 // The first section that two trains share.
 fn shared(a: &[u16], b: &[u16]) -> Option<u16>
@@ -107,9 +107,12 @@ pub(crate) fn standing(station: &Station<'_>, plan: Plan<'_>, lies: &[bool]) -> 
     ensures { λ r. ⌜ Cases r ((i : ℕ) → i < 16 → Hangs (plan-of (plan .entry)) (marks (now (lies .entry))) (station-world (now (station .entry)) .trains i .up) (station-world (now (station .entry)) .trains i .body)) (λ b. (h : State) → (s : Occupancy) → Violated-in (plan-of (plan .entry)) h (marks (now (lies .entry))) s (station-world (now (station .entry)) .trains) b) ⌝ }
 {
     for i in 0..16 {
-        if let Some((behind, before)) =
-            parted(plan, lies, station.goes_up(i), station.sections_of(i))
-        {
+        if let Some((behind, before)) = parted(
+            plan,
+            lies,
+            station.goes_up(i),
+            station.sections_of(i),
+        ) {
             return Some(Broken::Torn(i, behind, before));
         }
     }

@@ -2,7 +2,7 @@ use mathlib.Core.Path.{refl}
 use mathlib.Core.Bool.{true}
 use lib.ListN.{set}
 use Rattle.plan.proofs.Walks.{folds-more, folds-all}
-use Rattle.model.specs.Held.{mark-all}
+use Rattle.trains.specs.Held.{mark-all}
 use Rattle.watch.proofs.seen.mark_all.Needs as need
 
 pub loop-x-again : need.loop-x-again

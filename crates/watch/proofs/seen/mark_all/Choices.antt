@@ -1,6 +1,6 @@
 use mathlib.Core.Path.{_≡_}
 use lib.ListN.{drop}
-use Rattle.model.specs.Held.{mark-all}
+use Rattle.trains.specs.Held.{mark-all}
 use Rattle.watch.proofs.seen.mark_all.Given as given
 
 abbrev pub Inv-loop-x : given.InvT-loop-x

@@ -5,11 +5,11 @@ use Prim.Native.Nat.{ℕ}
 use native.Mathlib.Omega.{arith}
 use lib.ListN.{length, replicate}
 use Rattle.std.specs.Of.Vec.{vec-items}
-use Rattle.model.specs.Held.{mark-all, within}
+use Rattle.trains.specs.Held.{mark-all, within}
 use Rattle.model.specs.Stations.{station-world}
 use Rattle.model.specs.World.{occupied}
-use Rattle.model.proofs.Tracks.{all-clear, seen-none, seen-more, length-marked}
-use Rattle.model.proofs.Steps.{seen-all}
+use Rattle.trains.proofs.Tracks.{all-clear, seen-none, seen-more, length-marked}
+use Rattle.trains.proofs.Trains.{seen-all}
 use Rattle.watch.proofs.seen.occupancy.Needs as need
 
 pub loop-i-holds : need.loop-i-holds

@@ -1,7 +1,7 @@
 use mathlib.Core.Path.{_≡_}
 use lib.ListN.{length}
 use Rattle.plan.specs.Plan.{marks}
-use Rattle.model.specs.Held.{within}
+use Rattle.trains.specs.Held.{within}
 use Rattle.model.specs.Stations.{station-world}
 use Rattle.model.specs.World.{occupied}
 use Rattle.watch.proofs.seen.occupancy.Given as given
