@@ -182,6 +182,7 @@ impl State {
                 true
             }
             Stage::Used if route.path.iter().all(|&x| !seen.taken(x)) => {
+                self.forget(r);
                 self.let_go(r);
                 true
             }
@@ -189,11 +190,19 @@ impl State {
         }
     }
 
+    /// No section of a route is passed any more.
+    fn forget(&mut self, r: u16) {
+        for x in 0..SECTIONS {
+            if self.lock[x] as u16 == r + 1 {
+                self.passed[x] = false;
+            }
+        }
+    }
+
     fn let_go(&mut self, r: u16) {
         for x in 0..SECTIONS {
             if self.lock[x] as u16 == r + 1 {
                 self.lock[x] = 0;
-                self.passed[x] = false;
             }
         }
         self.stage[r as usize] = Stage::Idle;
@@ -223,7 +232,7 @@ impl State {
         if before.into_iter().any(|&y| self.lock_of(y) == lock) {
             return false;
         }
-        let last = route.path.last() == Some(&x);
+        let last = route.path.last().copied().unwrap_or(0) == x;
         if seen.taken(x) && !last {
             return false;
         }
@@ -238,7 +247,7 @@ impl State {
     /// Takes note of what is seen.
     pub fn note(&mut self, plan: &Plan, seen: &Seen) {
         for (r, route) in plan.routes.iter().enumerate() {
-            if self.stage[r].passable() && route.path.first().map_or(false, |&x| seen.taken(x)) {
+            if self.stage[r].passable() && seen.taken(route.path.first().copied().unwrap_or(0)) {
                 self.stage[r] = Stage::Used;
             }
         }
