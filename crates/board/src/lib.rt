@@ -1,4 +1,6 @@
 // The picture as text for a terminal, at most 80 columns wide.
+#![tactic(auto)]
+
 use interlocking::Stage;
 use picture::{Light, Picture};
 use std::alloc::{AllocError, Global};

@@ -1,4 +1,6 @@
 // The judge, a request and noting for programs in C and Rust: numbers and slices in, three numbers out.
+#![tactic(auto)]
+
 ghost use Rattle.std.specs.Prelude.{◌≡◌, true, Option, Result};
 ghost use Rattle.bridge.specs.Codes.{act_code, note_code, outcome_code, refused_code};
 ghost use Rattle.interlocking.specs.Says.{request_of};

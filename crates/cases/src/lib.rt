@@ -1,4 +1,6 @@
 // Rows of events played in the example stations, and what each must be answered.
+#![tactic(auto)]
+
 use interlocking::Stage;
 use model::run::Outcome;
 use plan::read::refusal;

@@ -1,4 +1,6 @@
 // When a plan keeps a rule, when a request is granted, and when a train may move: the conditions alone, each in one place.
+#![tactic(auto)]
+
 ghost use Rattle.std.specs.Prelude.{eqb, leb, ltb, ◌&&◌, ◌||◌, not, ◌≡◌};
 
 // A route begins in a section that there is, at a signal.

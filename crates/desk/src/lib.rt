@@ -1,4 +1,6 @@
 // The desk: requests that people make wait in a row, and are served in order.
+#![tactic(auto)]
+
 ghost use Rattle.std.specs.Prelude.{◌≡◌, ◌+◌, ◌-◌, ◌^◌, ◌<◌, ◌≤◌, min, ◌||◌, [], ◌∷◌, ◌++◌, length, take, drop, IfOk, MatchResult, ◌==◌, nat_le};
 ghost use Rattle.desk.specs.Desk.{answers, Asked, first_at, KeepsOrder, served_all, Serves, waiting_of, waits, without};
 ghost use Rattle.interlocking.specs.Says.{Says, state_of};

@@ -1,4 +1,6 @@
 // The station drawn as SVG: sections as lines, points where lines part, signals, trains as boxes, locked sections as wide bands.
+#![tactic(auto)]
+
 use layout::{Layout, beyond};
 use picture::Picture;
 use plan::view::Plan;

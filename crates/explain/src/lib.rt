@@ -1,4 +1,6 @@
 // Why a plan is not sound, or why numbers are no plan: which section, end or point is wrong.
+#![tactic(auto)]
+
 use plan::Size;
 
 pub mod lies;

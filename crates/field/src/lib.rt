@@ -1,4 +1,6 @@
 // What each signal shows and what each point is told, from the interlocking and nothing else.
+#![tactic(auto)]
+
 ghost use Rattle.std.specs.Prelude.{◌≡◌, ◌&&◌, ◌++◌, IfOk, OnOk, ◌==◌};
 ghost use Rattle.field.specs.Field.{aspect_of, clears, is_shown, orders_of, ShowsExactly, shows, signal_order};
 ghost use Rattle.interlocking.specs.Says.{state_of};

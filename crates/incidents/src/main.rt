@@ -1,4 +1,6 @@
 // Rows of events played in their stations, one after the other: for each the verdict on its plan, then each event that was done, or `can't`, with the first promise that does not hold after it.
+#![tactic(auto)]
+
 use model::Event;
 use model::station::Station;
 use plan::read::refusal;

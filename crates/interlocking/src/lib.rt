@@ -1,4 +1,6 @@
 // The interlocking: locks, stages and wants, and what it does when asked.
+#![tactic(auto)]
+
 ghost use Rattle.std.specs.Prelude.{◌≡◌, ◌+◌, ◌<◌, true, false, replicate, slice_index, slice_index_or};
 ghost use Rattle.interlocking.specs.Says.{kind_of, request_of, Says, state_of, which_of};
 ghost use Rattle.interlocking.specs.State.{at_rest, can_fall, is_falling, is_idle, is_open, is_set, is_used, let_go, restaged};

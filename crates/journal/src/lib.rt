@@ -1,4 +1,6 @@
 // The journal of a station: how its points lay at first, and every event in order with its answer. In numbers, and back.
+#![tactic(auto)]
+
 ghost use Rattle.std.specs.Prelude.{◌≡◌, [], ◌∷◌, ◌++◌, map, is_ok, IfOk, if◌then◌else◌};
 ghost use Rattle.message.specs.Numbers.{bit};
 ghost use Rattle.journal.specs.Entries.{entry_numbers, entry_of, journal_numbers, paired};

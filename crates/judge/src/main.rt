@@ -1,4 +1,6 @@
 // Judges plans that are written as texts: prints a line for each, and ends with status 0 only if all are sound.
+#![tactic(auto)]
+
 use anyhow::anyhow;
 use interlocking::Interlocking;
 use picture::Picture;

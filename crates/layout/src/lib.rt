@@ -1,4 +1,6 @@
 // Where each section is drawn, from the plan alone: a column by the longest way up to it, and a row by how the lines branch.
+#![tactic(auto)]
+
 use plan::view::Plan;
 
 #[derive(Clone, Copy)]

@@ -1,4 +1,6 @@
 // Journals as texts: how the points lay on the first line, 1 for left, and then a line of five numbers for each entry.
+#![tactic(auto)]
+
 use journal::read::Refusal;
 use journal::{Entry, Journal};
 use script::EventText;

@@ -1,4 +1,6 @@
 // What is told between parts (requests, answers and events), in five numbers, and back.
+#![tactic(auto)]
+
 ghost use Rattle.std.specs.Prelude.{◌≡◌, Ok, MatchResult};
 ghost use Rattle.interlocking.specs.Says.{request_of};
 ghost use Rattle.message.specs.Numbers.{bit, can_be, event_in, first_of, kind_in, last_at, message_in, message_numbers, second_of};

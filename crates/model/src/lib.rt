@@ -1,4 +1,6 @@
 // Trains, points and the interlocking of one station, and all that can happen there.
+#![tactic(auto)]
+
 use interlocking::Request;
 
 pub mod can;

@@ -1,4 +1,6 @@
 // What the interlocking notes of occupied sections.
+#![tactic(auto)]
+
 ghost use Rattle.std.specs.Prelude.{◌≡◌, false, length, slice_index};
 ghost use Rattle.plan.specs.Plan.{marks};
 ghost use Rattle.plan.specs.View.{plan_of, route_of};

@@ -1,4 +1,6 @@
 // What holds over runs of the signals that trains see, and of the requests that come by the desk. Each function returns nothing of use: its contract is the statement.
+#![tactic(auto)]
+
 ghost use Rattle.operation.specs.Runs.{DeskIsARun, SignalsAlwaysSafe};
 
 // After every lawful row of events of a sound plan that there is room for, whatever signal shows proceed, or may still be passed, has its route's path locked and vacant and its points lying right.

@@ -1,4 +1,6 @@
 // The picture: what stands where and what is set, for each section, point, signal and route.
+#![tactic(auto)]
+
 ghost use Rattle.std.specs.Prelude.{◌≡◌, ℕ, false, nat_lt, slice_index, slice_index_or};
 ghost use Rattle.interlocking.specs.Says.{state_of};
 ghost use Rattle.picture.specs.Picture.{bit, light_at, light_number, light_of, lit, locked_for, number_in, Pictured, stage_kind, time_left};

@@ -1,4 +1,6 @@
 // Plays a row of events in the station of a plan, or replays the journal of one: prints each event that was done, or `can't`.
+#![tactic(auto)]
+
 use crate::again::replay_text;
 use crate::options::{Options, USAGE, options_of};
 use crate::show::{finish, print_after, print_answer, write_file};

@@ -1,4 +1,6 @@
 // Plans written as texts, as they are read.
+#![tactic(auto)]
+
 use plan::End;
 use plan::route::Route;
 use plan::view::Plan;

@@ -1,4 +1,6 @@
 // A journal replayed: the station is stepped through the entries, and one whose answer is not the station's own is refused.
+#![tactic(auto)]
+
 ghost use Rattle.std.specs.Prelude.{◌≡◌, min, List};
 ghost use Rattle.memory.specs.Memory.{state_in};
 ghost use Rattle.model.specs.Stations.{station_plan, station_world};

@@ -1,4 +1,6 @@
 // What the judge says of a plan's numbers, and the words for it.
+#![tactic(auto)]
+
 ghost use Rattle.std.specs.Prelude.{◌≡◌, Some};
 ghost use Rattle.plan.specs.Numbers.{plan_in, refused};
 ghost use Rattle.report.specs.Words.{Says, is_sound, outcome_text};

@@ -1,4 +1,6 @@
 // The numbers of a plan's parts, and where they stand.
+#![tactic(auto)]
+
 ghost use Rattle.std.specs.Prelude.{◌≡◌, ◌+◌, ◌*◌, [], ◌∷◌, length, replicate, IfOk};
 ghost use Rattle.plan.specs.Numbers.{refused};
 ghost use Rattle.plan.specs.Plan.{pick};

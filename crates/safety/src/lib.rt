@@ -1,4 +1,6 @@
 // What holds of every sound plan and every lawful row of events, and of every state. Each function returns nothing of use: its contract is the statement.
+#![tactic(auto)]
+
 ghost use Rattle.soundness.specs.Promise.{Judged};
 ghost use Rattle.safety.specs.Promise.{Agrees, AlwaysInRoom, ArraysInRoom, EitherOrder, StrangersInSound, Theorem, Unchanged};
 ghost use Rattle.safety.specs.Safe.{Keeps};

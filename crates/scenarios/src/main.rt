@@ -1,4 +1,5 @@
 // The examples, the incidents and the tables, played and answered: what is printed is held to what it must be.
+#![tactic(auto)]
 
 mod beside;
 mod chance;

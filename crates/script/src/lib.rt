@@ -1,4 +1,6 @@
 // Rows of events as texts.
+#![tactic(auto)]
+
 use interlocking::Request;
 use model::Event;
 use std::alloc::Global;

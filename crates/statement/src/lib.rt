@@ -1,4 +1,6 @@
 // What one line of a plan says.
+#![tactic(auto)]
+
 use plan::{End, Need};
 use rows::{Needs, OUTSIDE, Path, RouteText};
 use words::cursor::{Cursor, Wrong};

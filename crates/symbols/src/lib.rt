@@ -1,4 +1,6 @@
 // The signs of a drawing in SVG: what stands on a section's line or at its ends.
+#![tactic(auto)]
+
 use picture::Light;
 use std::alloc::{AllocError, Global};
 

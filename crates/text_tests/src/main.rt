@@ -1,4 +1,6 @@
 // Texts from tables, read and answered, and plans written and read again.
+#![tactic(auto)]
+
 use plan::read::refusal;
 use plan::view::Plan;
 use print::write_plan;

@@ -1,4 +1,6 @@
 // Plans that each break one rule, or that are refused: for each file the verdict, and why.
+#![tactic(auto)]
+
 use report::Outcome;
 use std::{env, fs};
 use text::read::read_plan;

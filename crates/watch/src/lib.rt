@@ -1,4 +1,6 @@
 // The promises looked at in a station's world, whatever is proved of it: the first that does not hold, and where.
+#![tactic(auto)]
+
 ghost use Rattle.interlocking.specs.Says.{state_of};
 ghost use Rattle.model.specs.Stations.{station_plan, station_world};
 ghost use Rattle.plan.specs.Plan.{marks};

@@ -1,4 +1,6 @@
 // Rows of events played in sound and unsound plans, and what is named after each event.
+#![tactic(auto)]
+
 use interlocking::Request;
 use model::Event;
 use model::station::Station;

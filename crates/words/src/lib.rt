@@ -1,4 +1,6 @@
 // Lines of words and numbers: what stands in them, and what is said of a line that can't be read.
+#![tactic(auto)]
+
 ghost use Rattle.std.specs.Prelude.{◌≡◌, ℕ, ◌^◌, ◌<◌, true, IfSome, Some, decimal, slice_index};
 ghost use Rattle.words.specs.Spelled.{spelled};
 

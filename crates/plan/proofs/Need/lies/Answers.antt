@@ -12,10 +12,10 @@ other m t l e f = let g : t ≡ false = sym e ∙ f in rw g
 
 pub returns-then-left : goal.returns-then-left
 returns-then-left c =
-    so c.mark-at-left.result (marks c.args.positions.now c.args.self.point) c.args.self.left
-    (c.mark-at-left.ensures ∙ ap (marks c.args.positions.now) c.from.ensures) c.if-left.true
+    so c.mark_at-left.result (marks c.args.positions.now c.args.self.point) c.args.self.left
+    (c.mark_at-left.ensures ∙ ap (marks c.args.positions.now) c.from.ensures) c.if-left.true
 
 pub returns-else-left : goal.returns-else-left
 returns-else-left c =
-    other c.mark-at-left.result (marks c.args.positions.now c.args.self.point) c.args.self.left
-    (c.mark-at-left.ensures ∙ ap (marks c.args.positions.now) c.from.ensures) c.if-left.false
+    other c.mark_at-left.result (marks c.args.positions.now c.args.self.point) c.args.self.left
+    (c.mark_at-left.ensures ∙ ap (marks c.args.positions.now) c.from.ensures) c.if-left.false
