@@ -13,15 +13,15 @@ F h s = all_free (state_of h) (marks s)
 abbrev f : Interlocking → List Bool → ℕ → Bool
 f h s x = eqb (get_or h.locks x 0) 0 && not (marks s x)
 
-pub returns-then-not-is-free : goal.returns-then-not-is-free
-returns-then-not-is-free c =
+pub returns-then-not-is_free : goal.returns-then-not-is_free
+returns-then-not-is_free c =
     ands_stop (F c.args.self.now c.args.occupied.now) (f c.args.self.now c.args.occupied.now) (free_cons (state_of c.args.self.now) (marks c.args.occupied.now)) _ _ 0 _ _
-    c.loop-x-test.true c.loop-x.invariant c.is-free.ensures c.if-not-is-free.true
+    c.loop-x-test.true c.loop-x.invariant c.is_free.ensures c.if-not-is_free.true
 
 pub loop-x-preserved : goal.loop-x-preserved
 loop-x-preserved c =
     ands_more (F c.args.self.now c.args.occupied.now) (f c.args.self.now c.args.occupied.now) (free_cons (state_of c.args.self.now) (marks c.args.occupied.now)) _ _ 0 _ _
-    c.loop-x-test.true c.loop-x.invariant c.is-free.ensures c.if-not-is-free.false
+    c.loop-x-test.true c.loop-x.invariant c.is_free.ensures c.if-not-is_free.false
 
 pub returns : goal.returns
 returns c =

@@ -2,4 +2,4 @@ use Rattle.interlocking.proofs.Fits.{resting}
 use Rattle.interlocking.proofs.Interlocking.at_rest.Goals as goal
 
 pub returns : goal.returns
-returns c = resting c.all-left.result c.all-left.ensures
+returns c = resting c.all_left.result c.all_left.ensures

@@ -7,13 +7,13 @@ use Rattle.interlocking.proofs.Interlocking.behind_free.Goals as goal
 pub returns-then-y-x : goal.returns-then-y-x
 returns-then-y-x c = behind_here (state_of c.args.self.now) c.args.lock c.args.x c.args.path.now _ _ c.loop-y-test.true c.loop-y.invariant c.if-y-x.true
 
-pub returns-then-lock-of-lock : goal.returns-then-lock-of-lock
-returns-then-lock-of-lock c =
-    behind_stop (state_of c.args.self.now) c.args.lock c.args.x c.args.path.now _ _ _ c.loop-y-test.true c.loop-y.invariant c.if-y-x.false c.lock-of.ensures c.if-lock-of-lock.true
+pub returns-then-lock_of-lock : goal.returns-then-lock_of-lock
+returns-then-lock_of-lock c =
+    behind_stop (state_of c.args.self.now) c.args.lock c.args.x c.args.path.now _ _ _ c.loop-y-test.true c.loop-y.invariant c.if-y-x.false c.lock_of.ensures c.if-lock_of-lock.true
 
 pub loop-y-preserved : goal.loop-y-preserved
 loop-y-preserved c =
-    behind_more (state_of c.args.self.now) c.args.lock c.args.x c.args.path.now _ _ _ c.loop-y-test.true c.loop-y.invariant c.if-y-x.false c.lock-of.ensures c.if-lock-of-lock.false
+    behind_more (state_of c.args.self.now) c.args.lock c.args.x c.args.path.now _ _ _ c.loop-y-test.true c.loop-y.invariant c.if-y-x.false c.lock_of.ensures c.if-lock_of-lock.false
 
 pub returns : goal.returns
 returns c = ands_all (behind_free (state_of c.args.self.now) c.args.lock c.args.x) (behind_nil (state_of c.args.self.now) c.args.lock c.args.x) _ _ _ c.loop-y-test.false c.loop-y.invariant

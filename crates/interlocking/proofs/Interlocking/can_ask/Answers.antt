@@ -9,5 +9,5 @@ use Rattle.interlocking.proofs.Interlocking.can_ask.Goals as goal
 pub returns : goal.returns
 returns c =
     ask_is (plan_of c.args.plan) (state_of c.args.self.now) (marks c.args.occupied.now) (marks c.args.lies.now) c.args.r _ _ _ _ _ _ _
-    c.routes.ensures c.route-route.ensures c.stage-of.ensures
-    (c.all-free-free.ensures ∙ ap (all_free (state_of c.args.self.now) (marks c.args.occupied.now)) c.path.ensures) c.can-have-had.ensures c.is-idle-idle.ensures c.may-set.ensures
+    c.routes.ensures c.route-route.ensures c.stage_of.ensures
+    (c.all_free-free.ensures ∙ ap (all_free (state_of c.args.self.now) (marks c.args.occupied.now)) c.path.ensures) c.can_have-had.ensures c.is_idle-idle.ensures c.may_set.ensures

@@ -15,17 +15,17 @@ F p h s = can_have p (state_of h) (marks s)
 abbrev f : Plan → Interlocking → List Bool → Need → Bool
 f p h s = can_want p (state_of h) (marks s)
 
-pub returns-then-not-can-want : goal.returns-then-not-can-want
-returns-then-not-can-want c =
+pub returns-then-not-can_want : goal.returns-then-not-can_want
+returns-then-not-can_want c =
     each_stop (F (plan_of c.args.plan) c.args.self.now c.args.occupied.now) (f (plan_of c.args.plan) c.args.self.now c.args.occupied.now)
     (have_cons (plan_of c.args.plan) (state_of c.args.self.now) (marks c.args.occupied.now)) (route_of c.args.route).needs c.loop-i.i _ no_need c.need.result _
-    c.loop-i-test.true c.needs-n.ensures c.loop-i.invariant c.need.ensures (sym c.can_want.ensures ∙ c.if-not-can-want.true)
+    c.loop-i-test.true c.needs-n.ensures c.loop-i.invariant c.need.ensures (sym c.can_want.ensures ∙ c.if-not-can_want.true)
 
 pub loop-i-preserved : goal.loop-i-preserved
 loop-i-preserved c =
     each_more (F (plan_of c.args.plan) c.args.self.now c.args.occupied.now) (f (plan_of c.args.plan) c.args.self.now c.args.occupied.now)
     (have_cons (plan_of c.args.plan) (state_of c.args.self.now) (marks c.args.occupied.now)) (route_of c.args.route).needs c.loop-i.i _ no_need c.need.result _
-    c.loop-i-test.true c.needs-n.ensures c.loop-i.invariant c.need.ensures (sym c.can_want.ensures ∙ c.if-not-can-want.false)
+    c.loop-i-test.true c.needs-n.ensures c.loop-i.invariant c.need.ensures (sym c.can_want.ensures ∙ c.if-not-can_want.false)
 
 pub returns : goal.returns
 returns c =

@@ -13,14 +13,14 @@ use Rattle.interlocking.proofs.Interlocking.clear.Goals as goal
 pub restaged-self-requires : goal.restaged-self-requires
 restaged-self-requires c =
     route_few c.args.plan.numbers.now c.args.r c.args.plan.formed
-    (clear_there (plan_of c.args.plan) (state_of c.args.self) (marks c.args.occupied.now) (marks c.args.lies.now) c.args.r (sym c.can-clear-done.ensures ∙ c.if-done.true))
+    (clear_there (plan_of c.args.plan) (state_of c.args.self) (marks c.args.occupied.now) (marks c.args.lies.now) c.args.r (sym c.can_clear-done.ensures ∙ c.if-done.true))
 
 pub returns-then-done : goal.returns-then-done
 unfolding done
 returns-then-done c =
-    said_done (plan_of c.args.plan) c.args.self (marks c.args.occupied.now) (marks c.args.lies.now) (Clear c.args.r) _ _ c.can-clear-done.ensures c.if-done.true
+    said_done (plan_of c.args.plan) c.args.self (marks c.args.occupied.now) (marks c.args.lies.now) (Clear c.args.r) _ _ c.can_clear-done.ensures c.if-done.true
     (same_fits _ _ (search rules) (search rules) (search rules) (search rules) c.restaged-self.ensures)
 
 pub returns-else-done : goal.returns-else-done
 returns-else-done c =
-    said_cant (plan_of c.args.plan) c.args.self (marks c.args.occupied.now) (marks c.args.lies.now) (Clear c.args.r) _ c.can-clear-done.ensures c.if-done.false
+    said_cant (plan_of c.args.plan) c.args.self (marks c.args.occupied.now) (marks c.args.lies.now) (Clear c.args.r) _ c.can_clear-done.ensures c.if-done.false

@@ -11,7 +11,7 @@ use Rattle.interlocking.proofs.Interlocking.free.Goals as goal
 
 pub freed-self-requires : goal.freed-self-requires
 freed-self-requires c =
-    let done = sym c.can-free-done.ensures ∙ c.if-done.true in
+    let done = sym c.can_free-done.ensures ∙ c.if-done.true in
     let l = free_locked (plan_of c.args.plan) (state_of c.args.self) (marks c.args.occupied.now) (marks c.args.lies.now) c.args.x done in
     let m = free_there (plan_of c.args.plan) (state_of c.args.self) (marks c.args.occupied.now) (marks c.args.lies.now) c.args.x done in
     let n = few_routes c.args.plan.numbers.now c.args.plan.formed in
@@ -21,9 +21,9 @@ freed-self-requires c =
 
 pub returns-then-done : goal.returns-then-done
 returns-then-done c =
-    said_done (plan_of c.args.plan) c.args.self (marks c.args.occupied.now) (marks c.args.lies.now) (Free c.args.x) _ _ c.can-free-done.ensures c.if-done.true
+    said_done (plan_of c.args.plan) c.args.self (marks c.args.occupied.now) (marks c.args.lies.now) (Free c.args.x) _ _ c.can_free-done.ensures c.if-done.true
     (same_fits _ _ (search rules) (search rules) (search rules) (search rules) c.freed-self.ensures)
 
 pub returns-else-done : goal.returns-else-done
 returns-else-done c =
-    said_cant (plan_of c.args.plan) c.args.self (marks c.args.occupied.now) (marks c.args.lies.now) (Free c.args.x) _ c.can-free-done.ensures c.if-done.false
+    said_cant (plan_of c.args.plan) c.args.self (marks c.args.occupied.now) (marks c.args.lies.now) (Free c.args.x) _ c.can_free-done.ensures c.if-done.false

@@ -13,7 +13,7 @@ loop-i-init c = upto_none (forgotten c.args.locks.now c.args.lock) false c.args.
 pub loop-i-preserved : goal.loop-i-preserved
 loop-i-preserved c =
     let l : c.loop-i.i < length c.loop-i.passed = omega arith in
-    upto_more (forgotten c.args.locks.now c.args.lock) false c.args.passed.now c.loop-i.passed c.loop-i.i _ l c.loop-i.invariant c.still-passed.ensures
+    upto_more (forgotten c.args.locks.now c.args.lock) false c.args.passed.now c.loop-i.passed c.loop-i.i _ l c.loop-i.invariant c.still_passed.ensures
 
 pub returns : goal.returns
 returns c =

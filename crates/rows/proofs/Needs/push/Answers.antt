@@ -10,5 +10,5 @@ returns-else-k-lt16 c =
     rw (
       set_past c.args.self.now.pairs (2 * c.args.self.now.count) c.args.need.point l,
       set_past c.args.self.now.pairs (2 * c.args.self.now.count + 1) (bit c.args.need.left) m,
-      c.saturating-add-self.ensures,
+      c.saturating_add-self.ensures,
     )

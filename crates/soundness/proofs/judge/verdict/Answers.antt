@@ -14,7 +14,7 @@ returns-in-Some c = verdict_route (plan_of c.args.plan) c.loop-r.r _ c.in-Some.r
 
 pub loop-r-preserved : goal.loop-r-preserved
 loop-r-preserved c = verdict_more (plan_of c.args.plan) c.loop-r.r _ c.loop-r-test.true c.loop-r.invariant
-    (c.in-default.ensures ∙ ap (route_fails (plan_of c.args.plan)) (c.route.ensures ∙ ap (route (plan_of c.args.plan)) c.from.ensures))
+    (c.in_default.ensures ∙ ap (route_fails (plan_of c.args.plan)) (c.route.ensures ∙ ap (route (plan_of c.args.plan)) c.from.ensures))
 
 pub returns : goal.returns
 returns c = verdict_whole (plan_of c.args.plan) c.loop-r.r _ _ c.loop-r-test.false c.loop-r.invariant c.whole.ensures

@@ -4,17 +4,17 @@ use Rattle.soundness.specs.Tests.{agree, needed_so}
 use Rattle.plan.proofs.Walks.{each_stop, each_more, each_all}
 use Rattle.soundness.proofs.rules.agree.Goals as goal
 
-pub returns-then-needs-so : goal.returns-then-needs-so
+pub returns-then-needs_so : goal.returns-then-needs_so
 unfolding agree
-returns-then-needs-so c =
+returns-then-needs_so c =
     each_stop (agree (route_of c.args.route).needs) (λ n. not (needed_so n.point (not n.left) (route_of c.args.route).needs)) (λ n ns. refl) (route_of c.args.route).needs c.loop-i.i _ no_need c.need-need.result _
-    c.loop-i-test.true c.needs-n.ensures c.loop-i.invariant c.need-need.ensures (ap not (sym c.needs-so.ensures ∙ c.if-needs-so.true))
+    c.loop-i-test.true c.needs-n.ensures c.loop-i.invariant c.need-need.ensures (ap not (sym c.needs_so.ensures ∙ c.if-needs_so.true))
 
 pub loop-i-preserved : goal.loop-i-preserved
 unfolding agree
 loop-i-preserved c =
     each_more (agree (route_of c.args.route).needs) (λ n. not (needed_so n.point (not n.left) (route_of c.args.route).needs)) (λ n ns. refl) (route_of c.args.route).needs c.loop-i.i _ no_need c.need-need.result _
-    c.loop-i-test.true c.needs-n.ensures c.loop-i.invariant c.need-need.ensures (ap not (sym c.needs-so.ensures ∙ c.if-needs-so.false))
+    c.loop-i-test.true c.needs-n.ensures c.loop-i.invariant c.need-need.ensures (ap not (sym c.needs_so.ensures ∙ c.if-needs_so.false))
 
 pub returns : goal.returns
 unfolding agree
