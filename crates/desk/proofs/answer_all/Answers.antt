@@ -12,7 +12,7 @@ loop-w-preserved c = (
   served_more (plan_of c.args.plan) (marks c.args.occupied.now) (marks c.args.lies.now) c.args.waiting.now c.loop-w.w-index _ c.loop-w.left c.perform.result.0 c.perform.result.1 _
       c.loop-w-test.true c.loop-w.invariant.0 c.perform.ensures,
   answers_more (plan_of c.args.plan) (marks c.args.occupied.now) (marks c.args.lies.now) c.args.waiting.now c.loop-w.w-index _ c.loop-w.left c.perform.result.0 c.perform.result.1 _ _ _
-      c.loop-w-test.true c.loop-w.invariant.1 c.perform.ensures c.in-ok-push.ensures.items,
+      c.loop-w-test.true c.loop-w.invariant.1 c.perform.ensures c.in_ok-push.ensures.items,
 )
 
 pub returns : goal.returns

@@ -9,7 +9,7 @@ loop-x-init c = c.new-orders.ensures.items ∙ sym (none_yet (plan_of c.args.pla
 
 pub loop-x-preserved : goal.loop-x-preserved
 loop-x-preserved c =
-    section_more (plan_of c.args.plan) (state_of c.args.interlocking.now) c.loop-x.x _ _ _ c.loop-x.invariant c.in-ok-put-signal.ensures c.in-ok-put-signal-2.ensures
+    section_more (plan_of c.args.plan) (state_of c.args.interlocking.now) c.loop-x.x _ _ _ c.loop-x.invariant c.in_ok-put_signal.ensures c.in_ok-put_signal-2.ensures
 
 pub loop-q-init : goal.loop-q-init
 loop-q-init c =
@@ -17,7 +17,7 @@ loop-q-init c =
 
 pub loop-q-preserved : goal.loop-q-preserved
 loop-q-preserved c =
-    point_more (plan_of c.args.plan) (state_of c.args.interlocking.now) _ c.loop-q.q _ _ c.told-left.result c.loop-q.invariant c.told-left.ensures c.in-ok-push.ensures.items
+    point_more (plan_of c.args.plan) (state_of c.args.interlocking.now) _ c.loop-q.q _ _ c.told-left.result c.loop-q.invariant c.told-left.ensures c.in_ok-push.ensures.items
 
 pub returns : goal.returns
 returns c =

@@ -10,7 +10,7 @@ loop-i-init c = (upto_none (λ x o. get_or c.args.memory.now x 0) 0 (replicate 6
 pub loop-i-preserved : goal.loop-i-preserved
 loop-i-preserved c =
     let l : c.loop-i.i < length c.loop-i.locks = omega arith in (
-      upto_more (λ x o. get_or c.args.memory.now x 0) 0 (replicate 64 0) c.loop-i.locks c.loop-i.i _ l c.loop-i.invariant.0 c.number-at.ensures,
+      upto_more (λ x o. get_or c.args.memory.now x 0) 0 (replicate 64 0) c.loop-i.locks c.loop-i.i _ l c.loop-i.invariant.0 c.number_at.ensures,
       length-set _ _ _ ∙ c.loop-i.invariant.1,
     )
 

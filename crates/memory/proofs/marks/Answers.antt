@@ -12,7 +12,7 @@ pub loop-i-preserved : goal.loop-i-preserved
 loop-i-preserved g c =
     let l : c.loop-i.i < length c.loop-i.marks = omega arith in (
       upto_more (λ x o. bitb (get_or c.args.memory.now (c.args.from + x) 0)) false (replicate g.row.N false) c.loop-i.marks c.loop-i.i _ l c.loop-i.invariant.0
-          (ap bitb c.number-at.ensures),
+          (ap bitb c.number_at.ensures),
       length-set _ _ _ ∙ c.loop-i.invariant.1,
     )
 

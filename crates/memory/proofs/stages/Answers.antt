@@ -13,7 +13,7 @@ pub loop-i-preserved : goal.loop-i-preserved
 loop-i-preserved c =
     let l : c.loop-i.i < length c.loop-i.stages = omega arith in (
       upto_more (λ x o. stage_in (get_or c.args.memory.now (128 + x) 0)) Idle (replicate 64 Idle) c.loop-i.stages c.loop-i.i _ l c.loop-i.invariant.0
-          (c.stage.ensures ∙ ap stage_in c.number-at.ensures),
+          (c.stage.ensures ∙ ap stage_in c.number_at.ensures),
       length-set _ _ _ ∙ c.loop-i.invariant.1,
     )
 

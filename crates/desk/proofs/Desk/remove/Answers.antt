@@ -6,6 +6,6 @@ pub returns : goal.returns
 returns c =
     let m : length c.args.self.now.places ≡ 64 = omega arith in
     record {
-      waiting = row_less c.args.self.now.places c.copy-from-slice.new.self c.args.self.now.count c.len-count.result c.args.i m c.len-count.ensures.count (omega arith) c.copy-from-slice.ensures.after;
+      waiting = row_less c.args.self.now.places c.copy_from_slice.new.self c.args.self.now.count c.len-count.result c.args.i m c.len-count.ensures.count (omega arith) c.copy_from_slice.ensures.after;
       next = refl;
     }

@@ -6,7 +6,7 @@ pub loop-init : goal.loop-init
 loop-init c = nowhere_start _ c.new-trains.ensures.items
 
 pub loop-preserved : goal.loop-preserved
-loop-preserved c = nowhere_more c.loop.counter (vec_items c.loop.trains) _ c.nowhere.result c.in-ok-push.ensures.items c.nowhere.ensures c.loop.invariant
+loop-preserved c = nowhere_more c.loop.counter (vec_items c.loop.trains) _ c.nowhere.result c.in_ok-push.ensures.items c.nowhere.ensures c.loop.invariant
 
 pub returns : goal.returns
 returns c = let e : c.loop.counter ≡ 16 = omega arith in nowhere_all c.loop.counter 16 _ e c.loop.invariant

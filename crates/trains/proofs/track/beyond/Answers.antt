@@ -5,4 +5,4 @@ use Rattle.trains.proofs.Tracks.{beyond_is}
 use Rattle.trains.proofs.track.beyond.Goals as goal
 
 pub returns : goal.returns
-returns c = beyond_is (plan_of c.args.plan) (marks c.args.lies.now) c.args.up c.args.x _ _ _ c.end-end.ensures (c.mark-at.ensures ∙ ap (marks c.args.lies.now) c.from.ensures) c.ahead.ensures
+returns c = beyond_is (plan_of c.args.plan) (marks c.args.lies.now) c.args.up c.args.x _ _ _ c.end-end.ensures (c.mark_at.ensures ∙ ap (marks c.args.lies.now) c.from.ensures) c.ahead.ensures

@@ -10,7 +10,7 @@ loop-r-init c = open_none (plan_of c.args.plan) (state_of c.args.interlocking.no
 pub loop-r-preserved : goal.loop-r-preserved
 loop-r-preserved c =
     open_more (plan_of c.args.plan) (state_of c.args.interlocking.now) c.args.up c.args.x c.loop-r.r _ _ _ _
-    c.stage-of.ensures c.route.ensures c.opens-found.ensures c.loop-r.invariant
+    c.stage_of.ensures c.route.ensures c.opens-found.ensures c.loop-r.invariant
 
 pub returns : goal.returns
 returns c =
