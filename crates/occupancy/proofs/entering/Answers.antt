@@ -7,7 +7,7 @@ use Rattle.occupancy.proofs.entering.Goals as goal
 pub returns-then-r-from : goal.returns-then-r-from
 returns-then-r-from c =
     entering_one (plan_of c.args.plan) (marks c.args.occupied.now) c.args.r _ _ _ _ _ (c.from.ensures ∙ c.routes.ensures) c.if-r-from.true
-    c.route.ensures c.is-entered.ensures c.entered.ensures
+    c.route.ensures c.is_entered.ensures c.entered.ensures
 
 pub returns-else-r-from : goal.returns-else-r-from
 returns-else-r-from c =

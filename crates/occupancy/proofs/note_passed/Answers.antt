@@ -11,7 +11,7 @@ pub loop-i-preserved : goal.loop-i-preserved
 loop-i-preserved c =
     let l : c.loop-i.i < length c.loop-i.passed = omega arith in
     upto_more (noted c.args.locks.now c.args.occupied.now) false c.args.passed.now c.loop-i.passed c.loop-i.i _ l c.loop-i.invariant
-    (c.noted.ensures ∙ ap (noted_mark (get_or c.loop-i.passed c.loop-i.i false) (get_or c.args.locks.now c.loop-i.i 0)) c.mark-at.ensures)
+    (c.noted.ensures ∙ ap (noted_mark (get_or c.loop-i.passed c.loop-i.i false) (get_or c.args.locks.now c.loop-i.i 0)) c.mark_at.ensures)
 
 pub returns : goal.returns
 returns c =

@@ -10,7 +10,7 @@ loop-x-init c = none_filled (light_of (plan_of c.args.plan) (state_of c.args.int
 
 pub loop-x-preserved : goal.loop-x-preserved
 loop-x-preserved c =
-    more_filled (light_of (plan_of c.args.plan) (state_of c.args.interlocking.now) c.args.up) Absent 64 c.loop-x.lights c.loop-x.x _ c.loop-x-test.true c.loop-x.invariant c.light-on.ensures
+    more_filled (light_of (plan_of c.args.plan) (state_of c.args.interlocking.now) c.args.up) Absent 64 c.loop-x.lights c.loop-x.x _ c.loop-x-test.true c.loop-x.invariant c.light_on.ensures
 
 pub returns : goal.returns
 returns c =

@@ -10,6 +10,6 @@ returns-then-end-x c = sym (leads_plain (route_of c.args.route).needs (end_of c.
 pub returns-else-not-end-x-2 : goal.returns-else-not-end-x-2
 returns-else-not-end-x-2 c =
     let e = leads_moved (route_of c.args.route).needs (end_of c.args.end) c.args.x _ _ (is_set _ c.if-not-end.false)
-    (ap (λ b. eqb c.args.end.on_left c.args.x || b) c.needs-so.ensures)
-    (ap (λ b. eqb c.args.end.on_right c.args.x || b) c.needs-so-else-not-end-x.ensures) in
+    (ap (λ b. eqb c.args.end.on_left c.args.x || b) c.needs_so.ensures)
+    (ap (λ b. eqb c.args.end.on_right c.args.x || b) c.needs_so-else-not-end-x.ensures) in
     both_true _ _ _ e c.if-not-end-x.false c.if-not-end-x-2.false

@@ -12,7 +12,7 @@ pub step-requires : goal.step-requires
 step-requires c = step_at (route_of c.args.route) _ c.loop-x.x-index _ c.path-path.ensures c.loop-x-test.true c.loop-x.invariant.1
 
 pub loop-x-preserved : goal.loop-x-preserved
-loop-x-preserved c = (hangs_more (plan_of c.args.plan) (route_of c.args.route).needs (route_of c.args.route).up c.loop-x.at _ _ _ _ c.loop-x-test.true refl c.in-default.ensures c.loop-x.invariant.0, step_next (route_of c.args.route) _ _ c.path-path.ensures)
+loop-x-preserved c = (hangs_more (plan_of c.args.plan) (route_of c.args.route).needs (route_of c.args.route).up c.loop-x.at _ _ _ _ c.loop-x-test.true refl c.in_default.ensures c.loop-x.invariant.0, step_next (route_of c.args.route) _ _ c.path-path.ensures)
 
 pub returns : goal.returns
 unfolding route_test

@@ -6,7 +6,7 @@ use Rattle.explain.proofs.Walk.{holds_at}
 use Rattle.explain.proofs.route.holds.Goals as goal
 
 pub loop-q-preserved : goal.loop-q-preserved
-loop-q-preserved c = below_more _ _ c.loop-q.invariant (holds_at (plan_of c.args.plan) (route_of c.args.route) _ _ _ _ _ c.place-x.ensures c.path-path.ensures c.found.ensures c.needs-point.ensures c.if-found-needs-point.false)
+loop-q-preserved c = below_more _ _ c.loop-q.invariant (holds_at (plan_of c.args.plan) (route_of c.args.route) _ _ _ _ _ c.place-x.ensures c.path-path.ensures c.found.ensures c.needs_point.ensures c.if-found-needs_point.false)
 
 pub returns : goal.returns
 unfolding route_test

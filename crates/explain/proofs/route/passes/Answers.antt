@@ -6,7 +6,7 @@ use Rattle.explain.proofs.Walk.{signal_is, passes_none}
 use Rattle.explain.proofs.route.passes.Goals as goal
 
 pub returns-then-signal : goal.returns-then-signal
-returns-then-signal c = signal_is (plan_of c.args.plan) (route_of c.args.route) _ _ _ _ _ c.path-path.ensures c.saturating-sub.ensures c.loop-x-test.true c.up-up.ensures c.signal.ensures c.if-signal.true
+returns-then-signal c = signal_is (plan_of c.args.plan) (route_of c.args.route) _ _ _ _ _ c.path-path.ensures c.saturating_sub.ensures c.loop-x-test.true c.up-up.ensures c.signal.ensures c.if-signal.true
 
 pub loop-x-preserved : goal.loop-x-preserved
 unfolding quiet
@@ -14,4 +14,4 @@ loop-x-preserved c = ands_more (quiet (plan_of c.args.plan) c.up-up.result) (λ 
 
 pub returns : goal.returns
 unfolding quiet
-returns c = passes_none (plan_of c.args.plan) (route_of c.args.route) _ _ _ c.path-path.ensures c.saturating-sub.ensures c.up-up.ensures (ands_all (quiet (plan_of c.args.plan) c.up-up.result) refl _ _ _ c.loop-x-test.false c.loop-x.invariant)
+returns c = passes_none (plan_of c.args.plan) (route_of c.args.route) _ _ _ c.path-path.ensures c.saturating_sub.ensures c.up-up.ensures (ands_all (quiet (plan_of c.args.plan) c.up-up.result) refl _ _ _ c.loop-x-test.false c.loop-x.invariant)

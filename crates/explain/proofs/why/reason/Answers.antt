@@ -5,5 +5,5 @@ use Rattle.explain.proofs.why.reason.Goals as goal
 pub returns-in-None : goal.returns-in-None
 returns-in-None c = no_fault_route (plan_of c.args.plan) _ _ _ c.in-Route.is c.in-None.ensures
 
-pub returns-in-None-whole-fault : goal.returns-in-None-whole-fault
-returns-in-None-whole-fault c = no_fault_whole (plan_of c.args.plan) _ _ c.in-Whole.is c.in-None-whole-fault.ensures
+pub returns-in-None-whole_fault : goal.returns-in-None-whole_fault
+returns-in-None-whole_fault c = no_fault_whole (plan_of c.args.plan) _ _ c.in-Whole.is c.in-None-whole_fault.ensures
