@@ -5,4 +5,4 @@ use Rattle.model.proofs.Runs.{start}
 use Rattle.model.proofs.station.Station.new.Goals as goal
 
 pub returns : goal.returns
-returns c = (refl, start (state_of c.at-rest-interlocking.result) (marks c.args.lies) (vec_items c.in-ok-trains.trains) c.at-rest-interlocking.ensures c.in-ok-trains.ensures)
+returns c = (refl, start (state_of c.at_rest-interlocking.result) (marks c.args.lies) (vec_items c.in_ok-trains.trains) c.at_rest-interlocking.ensures c.in_ok-trains.ensures)

@@ -17,7 +17,7 @@ returns-then-x-from c = come_far (plan_of c.args.plan) c.args.self.now.trains.le
 pub returns : goal.returns
 returns c =
     let few = few_sections c.args.plan in
-    come_in (plan_of c.args.plan) c.args.self.now.trains.len (world_of c.args.self.now) c.args.i c.args.up c.args.x (train_of c.index.result.now) c.is-nowhere.result c.may_enter.result (marks c.occupancy-occupied.result)
+    come_in (plan_of c.args.plan) c.args.self.now.trains.len (world_of c.args.self.now) c.args.i c.args.up c.args.x (train_of c.index.result.now) c.is_nowhere.result c.may_enter.result (marks c.occupancy-occupied.result)
     (omega arith) (omega arith) few
-    (train_here (vec_items c.args.self.now.trains) c.args.i c.args.self.now.trains.len c.index.result.now (omega arith) c.args.self.now.trains.ok.0 c.index.ensures) c.is-nowhere.ensures
+    (train_here (vec_items c.args.self.now.trains) c.args.i c.args.self.now.trains.len c.index.result.now (omega arith) c.args.self.now.trains.ok.0 c.index.ensures) c.is_nowhere.ensures
     c.occupancy-occupied.ensures c.may_enter.ensures
