@@ -7,5 +7,5 @@ use Rattle.replay.proofs.memory_of.Goals as goal
 
 pub returns : goal.returns
 returns c = λ t row e.
-    memory_says (station_plan c.args.station.now) t row (station_world c.args.station.now) c.interlocking-interlocking.result c.empty_memory.result c.store.new.memory
-    (time_in c.args.station.now.plan.numbers.now c.args.station.now.plan.formed) (ap length c.empty_memory.ensures) (search rules) (ap state_of c.interlocking-interlocking.ensures) c.store.ensures e
+    memory_says (station_plan c.args.station.now) t row (station_world c.args.station.now) c.interlocking-interlocking.result c.empty-memory.result c.store.new.memory
+    (time_in c.args.station.now.plan.numbers.now c.args.station.now.plan.formed) (ap length c.empty-memory.ensures) (search rules) (ap state_of c.interlocking-interlocking.ensures) c.store.ensures e

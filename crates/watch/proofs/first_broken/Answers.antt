@@ -9,4 +9,4 @@ use Rattle.watch.proofs.first_broken.Goals as goal
 pub returns : goal.returns
 returns c =
     told (plan_of c.plan-plan.result) _ (state_of c.interlocking-interlocking.result) _ (marks c.lies-lies.result) _ (marks c.occupancy-occupied.result) (station_world c.args.station.now).trains c.misheld.result
-    c.plan-plan.ensures (ap state_of c.interlocking-interlocking.ensures) (ap marks c.lies-lies.ensures) c.occupancy-occupied.ensures c.in-default.ensures c.misheld.ensures
+    c.plan-plan.ensures (ap state_of c.interlocking-interlocking.ensures) (ap marks c.lies-lies.ensures) c.occupancy-occupied.ensures c.in_default.ensures c.misheld.ensures

@@ -6,13 +6,13 @@ use Rattle.journal.proofs.Journal.numbers.Goals as goal
 
 pub loop-i-init : goal.loop-i-init
 unfolding journal_numbers
-loop-i-init c = ap (λ (z : List ℕ). z ++ flat_map entry_numbers (vec_items c.args.self.now.entries)) c.in-ok-numbers.ensures
+loop-i-init c = ap (λ (z : List ℕ). z ++ flat_map entry_numbers (vec_items c.args.self.now.entries)) c.in_ok-numbers.ensures
 
 pub loop-i-preserved : goal.loop-i-preserved
 loop-i-preserved c =
     let es = vec_items c.args.self.now.entries in let e = c.index.result.now in let v = vec_items c.loop-i.numbers in
-    rows_more v (vec_items c.extend-from-slice.new.self) c.numbers.result es c.loop-i.i e e (journal_numbers c.args.self.now.lies es)
-    (omega (arith, c.len-i-end.ensures, c.loop-i-test.true, c.args.self.now.entries.ok.0)) c.index.ensures c.in-ok-extend-from-slice.ensures.items c.numbers.ensures c.loop-i.invariant
+    rows_more v (vec_items c.extend_from_slice.new.self) c.numbers.result es c.loop-i.i e e (journal_numbers c.args.self.now.lies es)
+    (omega (arith, c.len-i-end.ensures, c.loop-i-test.true, c.args.self.now.entries.ok.0)) c.index.ensures c.in_ok-extend_from_slice.ensures.items c.numbers.ensures c.loop-i.invariant
 
 pub returns : goal.returns
 returns c =

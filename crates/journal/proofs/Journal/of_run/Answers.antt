@@ -7,9 +7,9 @@ loop-i-init c = (refl, pairs_none (vec_items c.new-journal.result.entries) c.arg
 
 pub loop-i-preserved : goal.loop-i-preserved
 loop-i-preserved c = (
-  c.in-ok-keep.ensures.lies ∙ c.loop-i.invariant.0,
+  c.in_ok-keep.ensures.lies ∙ c.loop-i.invariant.0,
   pairs_more (vec_items c.loop-i.journal.entries) (vec_items c.keep.new.self.entries) c.args.events.now c.args.answers.now c.loop-i.i
-      (omega (arith, c.min-i-end.ensures)) (omega (arith, c.min-i-end.ensures)) c.in-ok-keep.ensures.entries c.loop-i.invariant.1,
+      (omega (arith, c.min-i-end.ensures)) (omega (arith, c.min-i-end.ensures)) c.in_ok-keep.ensures.entries c.loop-i.invariant.1,
 )
 
 pub returns : goal.returns

@@ -8,25 +8,25 @@ loop-at-init c =
 
 pub loop-at-preserved : goal.loop-at-preserved
 loop-at-preserved c =
-    so_row c.args.numbers.now c.loop-at.at c.five-at.result.now c.five-at.ensures c.loop-at.journal.lies c.keep.new.self.lies (vec_items c.loop-at.journal.entries)
-    (vec_items c.keep.new.self.entries) c.in-Ok-entry-in.entry c.in-Ok-entry-in.ensures c.keep.ensures.lies (kept c.keep.result _ _ _ c.if-is-err.ensures.value c.keep.ensures.entries) c.loop-at.invariant
+    so_row c.args.numbers.now c.loop-at.at c.five_at.result.now c.five_at.ensures c.loop-at.journal.lies c.keep.new.self.lies (vec_items c.loop-at.journal.entries)
+    (vec_items c.keep.new.self.entries) c.in-Ok-entry_in.entry c.in-Ok-entry_in.ensures c.keep.ensures.lies (kept c.keep.result _ _ _ c.if-is_err.ensures.value c.keep.ensures.entries) c.loop-at.invariant
 
 pub loop-at-smaller : goal.loop-at-smaller
 loop-at-smaller c =
-    let l = entry_there c.args.numbers.now c.loop-at.at c.five-at.result.now c.five-at.ensures c.in-Ok-entry-in.entry c.in-Ok-entry-in.ensures in omega arith
+    let l = entry_there c.args.numbers.now c.loop-at.at c.five_at.result.now c.five_at.ensures c.in-Ok-entry_in.entry c.in-Ok-entry_in.ensures in omega arith
 
-pub overflow-add-at : goal.overflow-add-at
-overflow-add-at c =
-    let l = entry_there c.args.numbers.now c.loop-at.at c.five-at.result.now c.five-at.ensures c.in-Ok-entry-in.entry c.in-Ok-entry-in.ensures in omega arith
+pub overflow_add-at : goal.overflow_add-at
+overflow_add-at c =
+    let l = entry_there c.args.numbers.now c.loop-at.at c.five_at.result.now c.five_at.ensures c.in-Ok-entry_in.entry c.in-Ok-entry_in.ensures in omega arith
 
-pub overflow-add-result : goal.overflow-add-result
-overflow-add-result c =
-    let l = place_there c.args.numbers.now c.loop-at.at c.five-at.result.now c.five-at.ensures c.in-Err-entry-in.place c.loop-at-test.true c.in-Err-entry-in.ensures in omega arith
+pub overflow_add-result : goal.overflow_add-result
+overflow_add-result c =
+    let l = place_there c.args.numbers.now c.loop-at.at c.five_at.result.now c.five_at.ensures c.in-Err-entry_in.place c.loop-at-test.true c.in-Err-entry_in.ensures in omega arith
 
-pub returns-in-Err-entry-in : goal.returns-in-Err-entry-in
-returns-in-Err-entry-in c =
-    wrong_row c.args.numbers.now c.loop-at.at c.five-at.result.now c.five-at.ensures c.loop-at.journal.lies (vec_items c.loop-at.journal.entries) c.in-Err-entry-in.place c.loop-at-test.true c.loop-at.invariant
-    c.in-Err-entry-in.ensures
+pub returns-in-Err-entry_in : goal.returns-in-Err-entry_in
+returns-in-Err-entry_in c =
+    wrong_row c.args.numbers.now c.loop-at.at c.five_at.result.now c.five_at.ensures c.loop-at.journal.lies (vec_items c.loop-at.journal.entries) c.in-Err-entry_in.place c.loop-at-test.true c.loop-at.invariant
+    c.in-Err-entry_in.ensures
 
 pub returns : goal.returns
 returns c = so_all c.args.numbers.now c.loop-at.journal.lies (vec_items c.loop-at.journal.entries) c.loop-at.at (omega arith) c.loop-at.invariant

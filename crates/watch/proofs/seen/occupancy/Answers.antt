@@ -13,7 +13,7 @@ pub loop-i-preserved : goal.loop-i-preserved
 loop-i-preserved c = (
   ap length c.mark_all.ensures ∙ length_marked _ _ ∙ c.loop-i.invariant.0,
   seen_more (station_world c.args.station.now).trains c.loop-i.seen _ c.loop-i.i ((station_world c.args.station.now).trains c.loop-i.i) c.loop-i.invariant.0
-      refl (c.mark_all.ensures ∙ ap (λ (xs : List ℕ). mark_all xs c.loop-i.seen) c.sections-of.ensures) c.loop-i.invariant.1,
+      refl (c.mark_all.ensures ∙ ap (λ (xs : List ℕ). mark_all xs c.loop-i.seen) c.sections_of.ensures) c.loop-i.invariant.1,
 )
 
 pub returns : goal.returns

@@ -10,10 +10,10 @@ unfolding occupied
 loop-i-init c = refl
 
 pub loop-i-preserved : goal.loop-i-preserved
-loop-i-preserved c = vacant_more (station_world c.args.station.now).trains c.loop-i.i c.args.x (sym (c.found.ensures ∙ ap (among c.args.x) c.sections-of.ensures) ∙ c.if-found.false) c.loop-i.invariant
+loop-i-preserved c = vacant_more (station_world c.args.station.now).trains c.loop-i.i c.args.x (sym (c.found.ensures ∙ ap (among c.args.x) c.sections_of.ensures) ∙ c.if-found.false) c.loop-i.invariant
 
 pub returns-then-found : goal.returns-then-found
-returns-then-found c = (omega arith, sym (c.found.ensures ∙ ap (among c.args.x) c.sections-of.ensures) ∙ c.if-found.true)
+returns-then-found c = (omega arith, sym (c.found.ensures ∙ ap (among c.args.x) c.sections_of.ensures) ∙ c.if-found.true)
 
 pub returns : goal.returns
 returns c = let z : 16 ≡ c.loop-i.i = omega arith in ap (λ (n : ℕ). occupied n (station_world c.args.station.now).trains c.args.x) z ∙ c.loop-i.invariant
