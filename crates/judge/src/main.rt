@@ -7,6 +7,7 @@ use picture::Picture;
 use plan::read::refusal;
 use plan::view::Plan;
 use report::Outcome;
+use std::process::ExitCode;
 use std::{env, fs, io};
 use text::read::read_plan;
 
@@ -153,7 +154,7 @@ impl Words {
             "--svg" => return Ok(true),
             other => {
                 if other.starts_with("-") {
-                    return Err(USAGE.into());
+                    return Err(anyhow!(USAGE));
                 }
                 self.files.push(word)?;
             }
@@ -178,7 +179,7 @@ impl Words {
 // The name of a file: an option in its place means that the name was left out.
 fn no_option(word: String) -> anyhow::Result<String> {
     if word.as_str().starts_with("-") {
-        return Err(USAGE.into());
+        return Err(anyhow!(USAGE));
     }
     Ok(word)
 }
@@ -200,7 +201,7 @@ fn words_of(rt: &HostRuntime) -> anyhow::Result<Words> {
         }
     }
     if drawing {
-        return Err(USAGE.into());
+        return Err(anyhow!(USAGE));
     }
     Ok(words)
 }
@@ -212,7 +213,7 @@ fn judge_all(rt: &HostRuntime) -> anyhow::Result<bool> {
         return judge_input(rt, options);
     }
     if options.named && options.svg.is_some() {
-        return Err(ONE_DRAWING.into());
+        return Err(anyhow!(ONE_DRAWING));
     }
     let mut sound = true;
     for file in words.files.iter() {
@@ -221,13 +222,13 @@ fn judge_all(rt: &HostRuntime) -> anyhow::Result<bool> {
     Ok(sound)
 }
 
-fn main(rt: HostRuntime) -> anyhow::Result<()> {
+fn main(rt: HostRuntime) -> anyhow::Result<ExitCode> {
     match judge_all(&rt) {
-        Ok(true) => Ok(()),
-        Ok(false) => Err(anyhow!("not sound")),
+        Ok(true) => Ok(ExitCode::SUCCESS),
+        Ok(false) => Ok(ExitCode::FAILURE),
         Err(error) => {
             eprintln!(rt; "{error}")?;
-            Err(error)
+            Ok(ExitCode::FAILURE)
         }
     }
 }

@@ -14,6 +14,7 @@ use report::Outcome;
 use safety::run::run;
 use script::{Script, read_events};
 use std::io::{BufWriter, Write};
+use std::process::ExitCode;
 use std::{fs, io};
 use text::read::read_plan;
 
@@ -193,7 +194,7 @@ fn numbers_of(rt: &HostRuntime, name: &str) -> anyhow::Result<Option<Vec<u16>>> 
 
 fn play_files(rt: &HostRuntime, options: &Options) -> anyhow::Result<bool> {
     let Some(plan) = &options.plan else {
-        return Err(USAGE.into());
+        return Err(anyhow!(USAGE));
     };
     let Some(numbers) = numbers_of(rt, plan.as_str())? else {
         return Ok(false);
@@ -213,13 +214,13 @@ fn start(rt: &HostRuntime) -> anyhow::Result<bool> {
     play_files(rt, &options)
 }
 
-fn main(rt: HostRuntime) -> anyhow::Result<()> {
+fn main(rt: HostRuntime) -> anyhow::Result<ExitCode> {
     match start(&rt) {
-        Ok(true) => Ok(()),
-        Ok(false) => Err(anyhow!("not played to the end")),
+        Ok(true) => Ok(ExitCode::SUCCESS),
+        Ok(false) => Ok(ExitCode::FAILURE),
         Err(error) => {
             eprintln!(rt; "{error}")?;
-            Err(error)
+            Ok(ExitCode::FAILURE)
         }
     }
 }

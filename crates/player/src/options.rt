@@ -1,4 +1,5 @@
 // What the words after the program's name ask for.
+use anyhow::anyhow;
 use std::env;
 
 // How many events are played if nothing else is said.
@@ -38,7 +39,7 @@ enum Next {
 // The name of a file: an option in its place means that the name was left out.
 fn no_option(word: String) -> anyhow::Result<String> {
     if word.as_str().starts_with("-") {
-        return Err(USAGE.into());
+        return Err(anyhow!(USAGE));
     }
     Ok(word)
 }
@@ -46,7 +47,7 @@ fn no_option(word: String) -> anyhow::Result<String> {
 fn budget_of(word: &str) -> anyhow::Result<usize> {
     match word.parse::<usize>() {
         Ok(n) => Ok(n),
-        Err(_) => Err(BUDGET_IS_A_NUMBER.into()),
+        Err(_) => Err(anyhow!(BUDGET_IS_A_NUMBER)),
     }
 }
 
@@ -66,7 +67,7 @@ impl Options {
             self.events = Some(word);
             return Ok(());
         }
-        Err(USAGE.into())
+        Err(anyhow!(USAGE))
     }
 
     // Takes an option by its name, and says what the next word is for.
@@ -78,7 +79,7 @@ impl Options {
             "--svg" => return Ok(Next::Svg),
             "--journal" => return Ok(Next::Journal),
             "--replay" => return Ok(Next::Replay),
-            _ => return Err(USAGE.into()),
+            _ => return Err(anyhow!(USAGE)),
         }
         Ok(Next::Name)
     }
@@ -117,10 +118,10 @@ pub fn options_of(rt: &HostRuntime) -> anyhow::Result<Options> {
         next = options.take(next, word)?;
     }
     if options.replay.is_some() && (options.events.is_some() || options.journal.is_some()) {
-        return Err(USAGE.into());
+        return Err(anyhow!(USAGE));
     }
     match next {
         Next::Name => Ok(options),
-        _ => Err(USAGE.into()),
+        _ => Err(anyhow!(USAGE)),
     }
 }
