@@ -1,5 +1,5 @@
 -- Answers as three numbers. Assumes nothing: these are definitions.
-use Rattle.std.specs.Prelude.{ℕ, Bool, true, false, Some, None, Ok, Err, Option, Result}
+use Rattle.std.specs.Prelude.{Some, None, Ok, Err, Option, Result}
 use Rattle.plan.specs.Plan.{pick}
 use Rattle.plan.specs.Numbers.{refusal_number, refusal_place}
 use Rattle.soundness.specs.Rules.{route_number, whole_number}

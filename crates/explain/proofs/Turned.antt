@@ -1,5 +1,5 @@
 -- What belongs to an outcome: refusals, and verdicts.
-use Rattle.std.proofs.Common.{◌≡◌, ℕ, ◌<◌, ◌≤◌, Bool, true, false, ◌⊎◌, List, length, get_or, Some, None, Option, sym, refl, ap, ◌∙◌, subst, inl, inr, arith}
+use Rattle.std.proofs.Common.{◌≡◌, ℕ, ◌<◌, true, List, length, Some, sym, subst}
 use Rattle.plan.specs.Plan.{Plan, route}
 use Rattle.plan.specs.Numbers.{Says, refused}
 use Rattle.plan.proofs.Formed.{refused_says}

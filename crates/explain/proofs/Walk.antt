@@ -1,11 +1,11 @@
 -- Steps of the searches for a fault.
-use Rattle.std.proofs.Common.{◌≡◌, ℕ, zero, suc, ◌+◌, ◌-◌, ◌<◌, ◌≤◌, Bool, true, false, not, ◌&&◌, ◌||◌, eqb, ltb, List, [], ◌∷◌, length, get_or, take, drop, Some, None, Option, sym, refl, ap, ◌∙◌, subst, add-one, arith, lt-ltb, MatchOption}
+use Rattle.std.proofs.Common.{◌≡◌, ℕ, zero, suc, ◌+◌, ◌-◌, ◌<◌, ◌≤◌, Bool, true, false, not, ◌&&◌, eqb, ltb, List, [], ◌∷◌, length, get_or, take, drop, Some, None, Option, sym, refl, ap, ◌∙◌, subst, add-one, arith, lt-ltb, MatchOption}
 use Rattle.std.proofs.lemmas.List.{get_or-take, length-take-le, take_rest, nil_from_length}
 use Rattle.plan.specs.Plan.{sameb, Route, End, Plan, among, needed}
 use Rattle.plan.specs.View.{no_need}
 use Rattle.plan.specs.declared.Need.{Need}
 use Rattle.soundness.specs.Tests.{differ, quiet, needed_so, holds, all_below, own, closed, shut, joins, leads_to, route_test, whole_test}
-use Rattle.soundness.specs.declared.RouteRule.TheVariants.{Begins, Goes, Differs, Agrees, Knows, Hangs, Passes, Ends, Holds}
+use Rattle.soundness.specs.declared.RouteRule.TheVariants.{Begins, Goes, Differs, Agrees, Knows, Hangs, Passes}
 use Rattle.soundness.specs.declared.WholeRule.TheVariants.{Places}
 use Rattle.soundness.proofs.Loops.{goes_is, differ_rest, differ_all}
 use Rattle.explain.specs.Faults.{Blames, BlamesWhole, FindsWhole, Step, Again, Inner}

@@ -1,6 +1,6 @@
 -- When what a fault names is really wrong, in the words of the rules. Assumes nothing: these are definitions.
 use Rattle.std.specs.Prelude.{◌≡◌, ℕ, suc, ◌+◌, ◌<◌, ◌≤◌, Bool, true, false, not, List, [], ◌∷◌, length, drop, Option, MatchOption, ◌≢◌, nat_le, slice_index_or}
-use Rattle.plan.specs.Plan.{pick, Route, End, Plan, among, needed, last_of}
+use Rattle.plan.specs.Plan.{Route, End, Plan, among, needed, last_of}
 use Rattle.plan.specs.declared.Need.{Need}
 use Rattle.soundness.specs.Tests.{needed_so, route_test, whole_test}
 use Rattle.soundness.specs.declared.RouteRule.{RouteRule}

@@ -6,9 +6,9 @@ use Rattle.plan.specs.Plan.{sameb, Plan, route}
 use Rattle.interlocking.specs.State.{State}
 use Rattle.interlocking.specs.declared.Stage.{Stage}
 use Rattle.interlocking.specs.declared.Stage.TheVariants.{Idle, Set, Shown, Used, Falling}
-use Rattle.field.specs.Field.{is_shown, clears, shows_below, shows, ClearedBy, ShowsExactly, signal_order, signal_orders, point_orders, orders_of}
+use Rattle.field.specs.Field.{is_shown, clears, shows_below, ClearedBy, ShowsExactly, signal_order, signal_orders, point_orders, orders_of}
 use Rattle.field.specs.declared.Order.{Order}
-use Rattle.field.specs.declared.Order.TheVariants.{Signal, Point}
+use Rattle.field.specs.declared.Order.TheVariants.{Point}
 
 pub shows_none : (p : Plan) (h : State) (up : Bool) (x : ℕ) → shows_below p h up x 0 ≡ false
 unfolding shows_below

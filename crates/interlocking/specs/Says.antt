@@ -1,10 +1,9 @@
 -- What the code's interlocking stands for, and what a request is answered.
-use Rattle.std.specs.Prelude.{◌≡◌, ℕ, zero, suc, ◌<◌, Bool, true, false, not, ◌&&◌, ◌||◌, List, [], ◌∷◌, length, ◌==◌, slice_index, slice_index_or, slice_set}
+use Rattle.std.specs.Prelude.{◌≡◌, ℕ, zero, suc, Bool, false, not, ◌&&◌, List, [], ◌∷◌, ◌==◌, slice_index, slice_index_or, slice_set}
 use Rattle.plan.specs.declared.Need.{Need}
 use Rattle.plan.specs.Plan.{pick, Plan, Positions}
 use Rattle.interlocking.specs.State.{State, Occupancy, does, acts}
-use Rattle.interlocking.specs.declared.Stage.{Stage}
-use Rattle.interlocking.specs.declared.Stage.TheVariants.{Idle, Set, Shown, Used, Falling}
+use Rattle.interlocking.specs.declared.Stage.TheVariants.{Idle}
 use Rattle.interlocking.specs.declared.Interlocking.{Interlocking}
 use Rattle.interlocking.specs.declared.Answer.{Answer}
 use Rattle.interlocking.specs.declared.Request.{Request}

@@ -1,7 +1,7 @@
 -- What the interlocking holds, and what it does when asked. Assumes nothing: these are definitions.
 use Rattle.std.specs.Prelude.{ℕ, zero, suc, ◌-◌, Bool, true, false, not, ◌&&◌, ◌||◌, List, [], ◌∷◌, length, ◌==◌, nat_le, nat_lt}
 use Rattle.plan.specs.declared.Need.{Need}
-use Rattle.plan.specs.Plan.{pick, sameb, Route, Plan, Positions, route, met, among, needed, last_of}
+use Rattle.plan.specs.Plan.{pick, sameb, Plan, Positions, route, met, among, needed, last_of}
 use Rattle.interlocking.specs.declared.Stage.{Stage}
 use Rattle.interlocking.specs.declared.Stage.TheVariants.{Idle, Set, Shown, Used, Falling}
 use Rattle.interlocking.specs.declared.Request.{Request}

@@ -1,5 +1,5 @@
 -- Which numbers a journal can begin with.
-use Rattle.std.proofs.Common.{◌≡◌, ℕ, suc, ◌+◌, ◌-◌, ◌<◌, ◌≤◌, Bool, true, false, cond, List, [], ◌∷◌, ◌++◌, map, length, get_or, take, drop, set, is_ok, is_err, Ok, Err, vec_items, Result, sym, refl, ap, ◌∙◌, subst, arith}
+use Rattle.std.proofs.Common.{◌≡◌, ℕ, suc, ◌+◌, ◌<◌, ◌≤◌, Bool, true, false, cond, List, [], ◌∷◌, ◌++◌, map, length, get_or, take, drop, set, is_ok, is_err, Ok, Err, vec_items, Result, sym, refl, ap, ◌∙◌, subst, arith}
 use lib.Seq.{take-append-add}
 use Rattle.std.specs.List.{flat_map}
 use Rattle.std.proofs.lemmas.List.{append_assoc, append-nil, drop_all, drop_at, drop-drop, drop-take, get_or_append_left, get_or-map, flat_map_more, length-append, length-drop, length-map, length-take, map-set, take_all, take-append-drop, take-append-le, take_at, take_more, take_more_set, take-take}

@@ -1,6 +1,5 @@
 -- What one train can do is what can happen.
-use Rattle.std.proofs.Common.{◌≡◌, ℕ, zero, suc, ◌+◌, ◌<◌, ◌≤◌, Bool, true, false, not, ◌&&◌, ◌||◌, eqb, ltb, leb, List, [], ◌∷◌, length, get_or, vec_items, sym, refl, ap, ◌∙◌, arith, le-ltb, lt-ltb}
-use mathlib.Core.Path.{fun_ext}
+use Rattle.std.proofs.Common.{◌≡◌, ℕ, ◌<◌, ◌≤◌, Bool, true, false, not, ◌&&◌, eqb, ltb, List, length, vec_items, sym, ap, ◌∙◌, arith, le-ltb, lt-ltb}
 use Rattle.plan.specs.Plan.{Plan, marks}
 use Rattle.interlocking.specs.State.{Occupancy}
 use Rattle.model.specs.World.{World, can}
@@ -9,8 +8,7 @@ use Rattle.trains.specs.Held.{trains_of, within}
 use Rattle.trains.specs.declared.train.Train.{Train as HeldTrain}
 use Rattle.model.specs.Held.{occupied_in}
 use Rattle.model.specs.declared.world.World.{World as HeldWorld}
-use Rattle.model.specs.declared.Event.{Event}
-use Rattle.model.specs.declared.Event.TheVariants.{Asked, Turns, Goes, Draws, Reverses, Comes, Leaves}
+use Rattle.model.specs.declared.Event.TheVariants.{Turns, Goes, Draws, Reverses, Comes, Leaves}
 
 and_in : (a b c : Bool) → a ≡ true → b ≡ c → b ≡ a && c
 and_in a b c e f = grind arith

@@ -1,5 +1,5 @@
 -- A row of events played from the empty station. Assumes nothing: these are definitions.
-use Rattle.std.specs.Prelude.{◌≡◌, ℕ, ◌<◌, min, Bool, true, false, List, [], ◌∷◌, length, take, slice_index_or}
+use Rattle.std.specs.Prelude.{◌≡◌, ℕ, ◌<◌, min, Bool, false, List, [], ◌∷◌, length, take, slice_index_or}
 use Rattle.plan.specs.Plan.{pick, Plan, Positions}
 use Rattle.interlocking.specs.declared.Request.TheVariants.{Ask}
 use Rattle.model.specs.World.{World, Lawful, after}

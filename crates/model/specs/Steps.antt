@@ -1,5 +1,5 @@
 -- What one event does to the code's world. Assumes nothing: these are definitions.
-use Rattle.std.specs.Prelude.{◌≡◌, ℕ, Bool, true, false, List, vec_items, vec_len, Result, MatchResult}
+use Rattle.std.specs.Prelude.{◌≡◌, ℕ, Bool, true, false, vec_items, vec_len, Result, MatchResult}
 use Rattle.plan.specs.Plan.{Plan}
 use Rattle.interlocking.specs.State.{does}
 use Rattle.interlocking.specs.Says.{state_of}

@@ -1,20 +1,17 @@
 -- The signals by the promise of shown routes, and the desk by induction over those that wait.
-use mathlib.Core.Path.{◌≡◌, refl, sym, ◌∙◌, ap}
-use mathlib.Core.Bool.{Bool, true}
+use mathlib.Core.Path.{◌≡◌, refl, ap}
+use mathlib.Core.Bool.{true}
 use mathlib.Core.List.{List, [], ◌∷◌}
 use Prim.Native.Nat.{ℕ, ◌<◌}
-use native.Mathlib.Omega.{arith}
 use lib.ListN.{length}
-use Rattle.plan.specs.Plan.{Plan, Positions, route}
-use Rattle.soundness.specs.Sound.{Sound}
-use Rattle.interlocking.specs.State.{is_open, State}
-use Rattle.interlocking.specs.declared.Stage.TheVariants.{Shown}
+use Rattle.plan.specs.Plan.{Plan, Positions}
+use Rattle.interlocking.specs.State.{is_open}
 use Rattle.model.specs.World.{World, occupied, after, Lawful, can, state_after, lies_after, trains_after}
 use Rattle.model.specs.declared.Event.{Event}
 use Rattle.model.specs.declared.Event.TheVariants.{Asked}
-use Rattle.safety.specs.Promise.{Sized, Promises, ShownWhen}
+use Rattle.safety.specs.Promise.{ShownWhen}
 use Rattle.safety.proofs.Theorem.{theorem}
-use Rattle.field.specs.Field.{PathHeld, ClearedBy}
+use Rattle.field.specs.Field.{PathHeld}
 use Rattle.field.proofs.Shown.{exactly}
 use Rattle.desk.specs.Desk.{served_all}
 use Rattle.desk.specs.declared.Ticketed.{Ticketed}

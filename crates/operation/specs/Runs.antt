@@ -2,7 +2,7 @@
 use Rattle.std.specs.Prelude.{◌≡◌, List, [], ◌∷◌, ℕ}
 use Rattle.plan.specs.Plan.{Plan, Positions}
 use Rattle.soundness.specs.Sound.{Sound}
-use Rattle.model.specs.World.{World, occupied, after, Lawful}
+use Rattle.model.specs.World.{occupied, after, Lawful}
 use Rattle.model.specs.declared.Event.{Event}
 use Rattle.model.specs.declared.Event.TheVariants.{Asked}
 use Rattle.safety.specs.Promise.{Sized, Promises}

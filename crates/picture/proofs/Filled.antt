@@ -1,5 +1,5 @@
 -- A loop that fills an array of n, each place with what belongs there.
-use Rattle.std.proofs.Common.{◌≡◌, ℕ, ◌+◌, ◌<◌, ◌≤◌, Bool, true, false, ltb, List, length, get_or, set, replicate, sym, refl, ◌∙◌, arith, length-set, le-ltb, lt-ltb}
+use Rattle.std.proofs.Common.{◌≡◌, ℕ, ◌+◌, ◌<◌, ◌≤◌, ltb, List, length, get_or, set, replicate, ◌∙◌, arith, length-set, le-ltb, lt-ltb}
 use Rattle.std.proofs.lemmas.List.{length-replicate}
 use Rattle.plan.specs.Plan.{pick}
 use Rattle.interlocking.proofs.Sweeps.{Upto, upto_none, upto_more, upto_all}

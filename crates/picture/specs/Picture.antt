@@ -1,5 +1,5 @@
 -- What the picture says, and its numbers. Assumes nothing: these are definitions.
-use Rattle.std.specs.Prelude.{◌≡◌, ℕ, zero, suc, ◌-◌, Bool, true, false, List, length, Some, None, Option, nat_lt, slice_index, slice_index_or}
+use Rattle.std.specs.Prelude.{◌≡◌, ℕ, zero, suc, ◌-◌, Bool, true, false, length, Some, None, Option, nat_lt, slice_index, slice_index_or}
 use Rattle.plan.specs.Plan.{pick, marks, Plan, Positions}
 use Rattle.interlocking.specs.State.{State, Occupancy}
 use Rattle.interlocking.specs.Says.{state_of}

@@ -1,5 +1,5 @@
 -- The time that is left has room in the memory, in every world that a row of events leads to.
-use Rattle.std.proofs.Common.{◌≡◌, ℕ, ◌<◌, ◌≤◌, List, [], ◌∷◌, length, sym, subst, lit<}
+use Rattle.std.proofs.Common.{◌≡◌, ℕ, ◌≤◌, List, [], ◌∷◌, length, sym, subst, lit<}
 use Rattle.plan.specs.Plan.{Plan, Positions}
 use Rattle.interlocking.specs.State.{at_rest}
 use Rattle.interlocking.specs.Says.{state_of}

@@ -1,5 +1,5 @@
 -- Every plan that can be read has room, so a run of a sound one keeps its promises.
-use Rattle.std.proofs.Common.{◌≡◌, ℕ, Bool, false, List, length, get_or, is_some, arith}
+use Rattle.std.proofs.Common.{◌≡◌, ℕ, Bool, false, List, get_or, is_some, arith}
 use Rattle.plan.specs.Plan.{Positions}
 use Rattle.plan.specs.Numbers.{plan_in, refused, routes_from}
 use Rattle.plan.proofs.Formed.{formed}

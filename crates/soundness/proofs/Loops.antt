@@ -1,9 +1,8 @@
 -- Steps of the loops that test lists, and all numbers below one.
-use Rattle.std.proofs.Common.{◌≡◌, ℕ, zero, suc, ◌+◌, ◌-◌, ◌<◌, ◌≤◌, Bool, true, false, not, ◌&&◌, ◌||◌, eqb, ltb, List, [], ◌∷◌, length, get_or, take, drop, sym, refl, ap, ◌∙◌, arith, le-ltb, lt-ltb, eq-eqb, ne_eqb}
+use Rattle.std.proofs.Common.{◌≡◌, ℕ, suc, ◌+◌, ◌-◌, ◌<◌, ◌≤◌, Bool, true, false, not, ◌&&◌, ◌||◌, eqb, ltb, List, [], ◌∷◌, length, get_or, take, drop, sym, refl, ap, arith, le-ltb, lt-ltb, eq-eqb, ne_eqb}
 use Rattle.std.proofs.lemmas.List.{at_drop_more, at_drop_all, take_rest}
 use Rattle.plan.specs.Plan.{End, Plan, Route, among, last_of}
 use Rattle.plan.specs.declared.Need.{Need}
-use Rattle.plan.proofs.Walks.{Ands, Ors, ands_more, ands_stop, ands_all, ors_more, ors_stop, ors_all}
 use Rattle.soundness.specs.Tests.{all_below, empty, differ, joins, hangs, leads_to, needed_so, route_test}
 use Rattle.soundness.specs.declared.RouteRule.TheVariants.{Ends}
 use Rattle.soundness.proofs.Each.{all_true, all_false}

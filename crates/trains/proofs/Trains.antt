@@ -1,13 +1,13 @@
 -- Trains by their numbers: one read, one written, and the sections that they stand in.
-use Rattle.std.proofs.Common.{◌≡◌, ℕ, zero, suc, ◌+◌, ◌<◌, ◌≤◌, Bool, true, false, ◌&&◌, ◌||◌, eqb, ltb, ◌≢◌, List, [], ◌∷◌, ◌++◌, map, length, get_or, set, vec_items, sym, refl, ap, ◌∙◌, subst, arith, eqb-true}
+use Rattle.std.proofs.Common.{◌≡◌, ℕ, zero, suc, ◌+◌, ◌<◌, ◌≤◌, Bool, true, false, ◌&&◌, eqb, ltb, ◌≢◌, List, [], ◌∷◌, ◌++◌, map, length, get_or, set, vec_items, sym, refl, ap, ◌∙◌, subst, arith, eqb-true}
 use mathlib.Core.Path.{fun_ext}
 use borrow.Author.Tests.{eqb-false}
 use Rattle.std.proofs.lemmas.List.{get_or-map, get_or_past, map-set, length-map, get_or-set_same, get_or-set_other, length_push}
-use Rattle.plan.specs.Plan.{pick, among}
+use Rattle.plan.specs.Plan.{pick}
 use Rattle.trains.specs.Trains.{Train, occupied, with_train}
 use Rattle.trains.specs.Held.{train_of, trains_of, nowhere, all_inside, trains_inside, within, Nowhere}
 use Rattle.trains.specs.declared.train.Train.{Train as HeldTrain}
-use Rattle.trains.proofs.Bodies.{among_inside, none_inside}
+use Rattle.trains.proofs.Bodies.{among_inside}
 
 pub trains_at : (ts : List HeldTrain) (i : ℕ) (t : HeldTrain) → i < length ts → t ≡ get_or ts i t → train_of t ≡ trains_of ts i
 unfolding trains_of

@@ -1,10 +1,10 @@
 -- What is noted of a section and of a route.
-use Rattle.std.proofs.Common.{◌≡◌, ℕ, ◌<◌, Bool, true, false, not, ◌&&◌, ◌||◌, eqb, ltb, length, get_or, sym, refl, ap, ◌∙◌, arith}
+use Rattle.std.proofs.Common.{◌≡◌, ℕ, ◌<◌, Bool, true, false, not, ◌&&◌, ltb, length, get_or, sym, refl, ap, ◌∙◌, arith}
 use Rattle.plan.specs.Plan.{Plan, Route, pick, route}
 use Rattle.interlocking.specs.declared.Stage.{Stage}
 use Rattle.interlocking.specs.declared.Stage.TheVariants.{Idle, Set, Shown, Used, Falling}
 use Rattle.interlocking.specs.State.{Occupancy, State, is_open}
-use Rattle.occupancy.specs.Notes.{entered, entering, notes}
+use Rattle.occupancy.specs.Notes.{entered, notes}
 
 entered_shut : (b : Bool) (g : Stage) → is_open g ≡ false → entered b g ≡ g
 entered_shut b Idle e = refl

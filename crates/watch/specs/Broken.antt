@@ -1,6 +1,6 @@
 -- What it means that a promise does not hold of a world, and that those that are looked at hold. Assumes nothing: these are definitions.
 use Rattle.std.specs.Prelude.{◌≡◌, ℕ, suc, ◌+◌, ◌-◌, ◌<◌, ◌≤◌, Bool, true, false, not, ◌&&◌, List, ◌∷◌, length, drop, ◌==◌, ◌≢◌, slice_index, slice_index_or}
-use Rattle.plan.specs.Plan.{Plan, Positions, Joined, Once, among, beyond, met, route, sameb}
+use Rattle.plan.specs.Plan.{Plan, Positions, Joined, among, beyond, met, route, sameb}
 use Rattle.plan.specs.View.{no_need}
 use Rattle.plan.specs.declared.Need.{Need}
 use Rattle.interlocking.specs.declared.Stage.TheVariants.{Idle, Set, Used, Falling}

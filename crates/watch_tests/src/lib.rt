@@ -95,7 +95,8 @@ pub fn by_chance(heap: Global, plan: &str, count: u32) -> Result<String, AllocEr
 #[cfg(test)]
 mod tests {
     use super::*;
-    use std::test::*;
+    use std::process::Abort;
+    use std::test::Fail;
 
     // The loop without its first route and its points.
     const TRACK: &str = "section 0 up 1 down outside
@@ -125,15 +126,20 @@ route down from 3 by 1 0 needs 0 right
 ";
 
     // The loop with these lines for its point 0 and its first two routes.
-    fn with(rt: &HostRuntime, lines: &str) -> Result<String, Fail> {
+    fn with(rt: &impl AllocGlobal, lines: &str) -> Result<String, Fail> {
         let text = format!(in rt.alloc(); "{TRACK}{lines}{ROUTES}")?;
         Ok(text)
     }
 
-    fn comes_to(rt: &HostRuntime, lines: &str, events: &str, expected: &str) -> Result<(), Fail> {
+    fn comes_to(
+        rt: &(impl Abort + AllocGlobal),
+        lines: &str,
+        events: &str,
+        expected: &str,
+    ) -> Result<(), Fail> {
         let plan = with(rt, lines)?;
         let said = played(rt.alloc(), plan.as_str(), events)?;
-        assert_eq!(said.as_str(), expected);
+        assert_eq!(rt; said.as_str(), expected);
         Ok(())
     }
 

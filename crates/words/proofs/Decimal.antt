@@ -1,5 +1,5 @@
 -- A number that is written in digits has no sign.
-use Rattle.std.proofs.Common.{◌≡◌, ℕ, ◌+◌, ◌^◌, ◌<◌, ◌≤◌, ◌⊎◌, List, [], ◌∷◌, get_or, decimal, sym, refl, ap, ◌∙◌, inl, inr, arith}
+use Rattle.std.proofs.Common.{◌≡◌, ℕ, ◌+◌, ◌^◌, ◌<◌, ◌≤◌, List, get_or, decimal, ap, arith}
 use Rattle.std.proofs.lemmas.Fmt.{first_decimal, decimal_digit}
 
 first : (n : ℕ) → n < 2 ^ 64 → 48 ≤ get_or (decimal n) 0 0

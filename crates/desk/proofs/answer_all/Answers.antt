@@ -1,4 +1,4 @@
-use Rattle.std.proofs.Common.{◌≡◌, refl}
+use Rattle.std.proofs.Common.{refl}
 use Rattle.plan.specs.Plan.{marks}
 use Rattle.plan.specs.View.{plan_of}
 use Rattle.desk.proofs.Rows.{served_more, served_end, answers_more, answers_end, none_served}

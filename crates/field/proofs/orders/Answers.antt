@@ -1,4 +1,4 @@
-use Rattle.std.proofs.Common.{◌≡◌, sym, ◌∙◌}
+use Rattle.std.proofs.Common.{sym, ◌∙◌}
 use Rattle.plan.specs.View.{plan_of}
 use Rattle.interlocking.specs.Says.{state_of}
 use Rattle.field.proofs.Shown.{none_yet, section_more, no_point, point_more, all_orders}

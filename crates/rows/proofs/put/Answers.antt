@@ -1,5 +1,4 @@
-use Rattle.std.proofs.Common.{◌≡◌, sym, ◌∙◌, arith}
-use native.Mathlib.Nat.{add-sub_cancel_left}
+use Rattle.std.proofs.Common.{arith}
 use Rattle.rows.proofs.Placed.{put_fits, put_none}
 use Rattle.rows.proofs.put.Goals as goal
 

@@ -1,4 +1,4 @@
-use Rattle.std.proofs.Common.{◌≡◌, ◌<◌, ◌||◌, leb, length, sym, refl, ap, ◌∙◌, arith}
+use Rattle.std.proofs.Common.{◌<◌, ◌||◌, leb, length, sym, refl, ap, ◌∙◌, arith}
 use Rattle.desk.proofs.Rows.{row_more}
 use Rattle.desk.proofs.Desk.ask.Goals as goal
 

@@ -1,4 +1,4 @@
-use Rattle.std.proofs.Common.{◌≡◌, length, sym, refl, ap, ◌∙◌, subst, arith}
+use Rattle.std.proofs.Common.{◌≡◌, length, ap, ◌∙◌, subst}
 use Rattle.plan.specs.Plan.{marks}
 use Rattle.plan.specs.View.{plan_of}
 use Rattle.interlocking.specs.Says.{Says}

@@ -1,5 +1,5 @@
-use Rattle.std.proofs.Common.{◌≡◌, ◌<◌, ◌≤◌, length, sym, refl, ◌∙◌, arith}
-use Rattle.desk.specs.Desk.{waiting_of, first_at}
+use Rattle.std.proofs.Common.{refl, arith}
+use Rattle.desk.specs.Desk.{waiting_of}
 use Rattle.desk.proofs.Rows.{withdrawn_one, withdrawn_none}
 use Rattle.desk.proofs.Desk.withdraw.Goals as goal
 

@@ -1,5 +1,5 @@
 use Rattle.std.proofs.Common.{◌≡◌, drop}
-use Rattle.plan.specs.View.{plan_of, route_of}
+use Rattle.plan.specs.View.{plan_of}
 use Rattle.soundness.specs.Tests.{quiet}
 use Rattle.explain.proofs.route.passes.Given as goal
 

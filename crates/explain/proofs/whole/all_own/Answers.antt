@@ -1,6 +1,6 @@
-use Rattle.std.proofs.Common.{true, false, not, ◌&&◌, ◌||◌, ltb, sym, below_more}
+use Rattle.std.proofs.Common.{true, false, ◌&&◌, sym}
 use Rattle.plan.specs.View.{plan_of}
-use Rattle.soundness.specs.Tests.{own, shut, whole_test}
+use Rattle.soundness.specs.Tests.{own, whole_test}
 use Rattle.soundness.proofs.Loops.{below_all}
 use Rattle.explain.proofs.whole.all_own.Goals as goal
 

@@ -1,6 +1,6 @@
-use Rattle.std.proofs.Common.{◌≡◌, ℕ, ◌<◌, true, false, not, ◌&&◌, ◌||◌, ltb}
+use Rattle.std.proofs.Common.{◌≡◌, ℕ, ◌<◌, true, false, ◌&&◌}
 use Rattle.plan.specs.View.{plan_of}
-use Rattle.soundness.specs.Tests.{own, shut}
+use Rattle.soundness.specs.Tests.{own}
 use Rattle.explain.proofs.whole.all_own.Given as goal
 
 abbrev pub invariant-loop-x : goal.invariant-loop-x

@@ -1,6 +1,5 @@
-use Rattle.std.proofs.Common.{◌≡◌, ℕ, ◌<◌, true, false, not, ◌&&◌, ◌||◌, ltb}
+use Rattle.std.proofs.Common.{◌≡◌, ℕ, ◌<◌, true, ltb}
 use Rattle.plan.specs.View.{plan_of}
-use Rattle.soundness.specs.Tests.{own, shut}
 use Rattle.explain.proofs.whole.all_placed.Given as goal
 
 abbrev pub invariant-loop-q : goal.invariant-loop-q

@@ -1,4 +1,4 @@
-use Rattle.std.proofs.Common.{◌≡◌, ◌<◌, min, length, vec_items, sym, refl, ◌∙◌, arith}
+use Rattle.std.proofs.Common.{◌≡◌, ◌<◌, min, length, vec_items, sym, ◌∙◌, arith}
 use Rattle.plan.specs.Plan.{marks}
 use Rattle.plan.specs.View.{plan_of}
 use Rattle.model.specs.Held.{world_of}

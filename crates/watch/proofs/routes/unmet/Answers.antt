@@ -1,4 +1,4 @@
-use Rattle.std.proofs.Common.{sym, refl, ◌∙◌, arith}
+use Rattle.std.proofs.Common.{sym, refl, ◌∙◌}
 use Rattle.plan.specs.Plan.{marks, met, sameb}
 use Rattle.plan.specs.View.{route_of, no_need}
 use Rattle.plan.proofs.Walks.{each_more, each_all}

@@ -1,4 +1,4 @@
-use Rattle.std.proofs.Common.{◌≡◌, ℕ, Bool, false, List, length, replicate, vec_items, refl, ap, ◌∙◌, arith}
+use Rattle.std.proofs.Common.{◌≡◌, ℕ, false, List, length, replicate, vec_items, refl, ap, ◌∙◌, arith}
 use Rattle.trains.specs.Held.{mark_all, within}
 use Rattle.model.specs.Stations.{station_world}
 use Rattle.model.specs.World.{occupied}

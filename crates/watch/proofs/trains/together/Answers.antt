@@ -1,4 +1,4 @@
-use Rattle.std.proofs.Common.{◌≡◌, ℕ, List, sym, ap, ◌∙◌, arith, below_more}
+use Rattle.std.proofs.Common.{sym, ap, ◌∙◌, arith, below_more}
 use Rattle.plan.specs.Plan.{among}
 use Rattle.watch.proofs.Lists.{apart_by}
 use Rattle.watch.proofs.trains.together.Goals as goal

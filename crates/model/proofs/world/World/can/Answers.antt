@@ -1,4 +1,3 @@
-use Rattle.std.proofs.Common.{refl}
 use Rattle.model.specs.World.{can}
 use Rattle.model.proofs.world.World.can.Goals as goal
 

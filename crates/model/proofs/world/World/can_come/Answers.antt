@@ -1,4 +1,4 @@
-use Rattle.std.proofs.Common.{◌≡◌, vec_items, arith}
+use Rattle.std.proofs.Common.{vec_items, arith}
 use Rattle.plan.specs.Plan.{marks}
 use Rattle.plan.specs.View.{plan_of}
 use Rattle.trains.specs.Held.{train_of}

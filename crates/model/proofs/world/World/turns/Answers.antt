@@ -1,11 +1,11 @@
-use Rattle.std.proofs.Common.{◌≡◌, ◌<◌, length, set, sym, refl, ◌∙◌, arith}
+use Rattle.std.proofs.Common.{◌<◌, length, set, sym, refl, ◌∙◌, arith}
 use Rattle.plan.specs.View.{plan_of}
 use Rattle.model.specs.Held.{world_of}
 use Rattle.model.specs.Steps.{happens}
 use Rattle.model.specs.declared.Event.TheVariants.{Turns}
 use Rattle.interlocking.specs.Says.{state_of}
 use Rattle.trains.proofs.Tracks.{few_points}
-use Rattle.model.proofs.Steps.{few_turn, stays_same, step_turned, told_done, told_not, turn_under, turned_marks}
+use Rattle.model.proofs.Steps.{few_turn, stays_same, step_turned, told_done, told_not, turned_marks}
 use Rattle.model.proofs.world.World.turns.Goals as goal
 
 pub returns-then-not-can_turn : goal.returns-then-not-can_turn

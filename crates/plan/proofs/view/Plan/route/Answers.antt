@@ -1,4 +1,4 @@
-use Rattle.std.proofs.Common.{◌≡◌, ◌≤◌, length, sym, ◌∙◌, arith}
+use Rattle.std.proofs.Common.{◌≤◌, length, sym, ◌∙◌, arith}
 use Rattle.plan.specs.Numbers.{plan_in}
 use Rattle.plan.proofs.Formed.{route_past}
 use Rattle.plan.proofs.view.Plan.route.Goals as goal
