@@ -1,4 +1,4 @@
-// The judge, a request and noting for programs in C and Rust: numbers and slices in, three numbers out.
+// The judge, a request and noting on numbers: slices and numbers in, three numbers out. `bridge_c` is the same for programs in C and Rust.
 #![tactic(auto)]
 
 ghost use Rattle.std.specs.Prelude.{◌≡◌, true, Option, Result};
@@ -36,8 +36,7 @@ fn refused(refusal: Refusal) -> Code
 }
 
 // 0 for a sound plan; 1, the rule, and the route or 64 for the whole plan; 2, the refusal's number and its place.
-#[unsafe(no_mangle)]
-pub extern "C" fn wonathippu_judge(plan: &[u16]) -> Code
+pub fn wonathippu_judge(plan: &[u16]) -> Code
     ensures { (o : Said) × Says plan.now o × (result ≡ outcome_code o) }
 {
     match Outcome::of(plan) {
@@ -65,8 +64,7 @@ pub extern "C" fn wonathippu_judge(plan: &[u16]) -> Code
 }
 
 // 1 if the request was done, 0 if not; 2, the refusal's number and its place.
-#[unsafe(no_mangle)]
-pub extern "C" fn wonathippu_act(
+pub fn wonathippu_act(
     plan: &[u16],
     memory: &mut [u16],
     seen: &[u8],
@@ -87,8 +85,7 @@ pub extern "C" fn wonathippu_act(
 }
 
 // 1; or 2, the refusal's number and its place.
-#[unsafe(no_mangle)]
-pub extern "C" fn wonathippu_note(plan: &[u16], memory: &mut [u16], seen: &[u8]) -> Code
+pub fn wonathippu_note(plan: &[u16], memory: &mut [u16], seen: &[u8]) -> Code
     ensures { (a : Option TurnedAway) × NoteSays (lent_refusal plan.now memory.old seen.now true) (plan_in plan.now) (marked seen.now) memory.old a memory.new × (result ≡ note_code a) }
 {
     match occupancy::entry::note(plan, memory, seen) {
