@@ -83,7 +83,8 @@ fn world_numbers(heap: Global, station: &Station<'_>) -> Result<Vec<u16>, AllocE
     }
     for i in 0..16 {
         let sections = station.sections_of(i);
-        numbers.push(u16::from(station.goes_up(i)))?;
+        // A train that is nowhere goes no way, and the plain player writes 0 for it.
+        numbers.push(u16::from(station.goes_up(i) && !sections.is_empty()))?;
         numbers.push((sections.len() & 0xffff) as u16)?;
         numbers.extend_from_slice(sections)?;
     }
