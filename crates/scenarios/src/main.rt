@@ -4,14 +4,14 @@
 mod beside;
 mod chance;
 mod journals;
+mod played;
 mod reader;
-mod rows;
 mod texts;
 mod verdicts;
 
 fn run(rt: &HostRuntime) -> anyhow::Result<()> {
     verdicts::show(rt)?;
-    rows::show(rt)?;
+    played::show(rt)?;
     texts::show(rt)?;
     journals::show(rt)?;
     chance::show(rt)?;

@@ -13,9 +13,9 @@ use model::station::Station;
 use plan::view::Plan;
 use std::fmt;
 
+mod fleet;
 mod routes;
 mod seen;
-mod trains;
 
 // What does not hold. Trains and routes, sections and points go by their numbers.
 #[derive(Clone, Copy)]
@@ -60,19 +60,19 @@ fn misplaced(
 ) -> Option<Broken>
     ensures { MatchOption result (Placed (plan_of plan.entry) (state_of interlocking.now) (marks lies.now) (marks occupied.now) (station_world station.now).trains) (λ b. ViolatedIn (plan_of plan.entry) (state_of interlocking.now) (marks lies.now) (marks occupied.now) (station_world station.now).trains b) }
 {
-    if let Some(b) = trains::apart(station) {
+    if let Some(b) = fleet::apart(station) {
         return Some(b);
     }
-    if let Some(b) = trains::standing(station, plan, lies) {
+    if let Some(b) = fleet::standing(station, plan, lies) {
         return Some(b);
     }
-    if let Some(b) = trains::still(station, plan, interlocking, lies) {
+    if let Some(b) = fleet::still(station, plan, interlocking, lies) {
         return Some(b);
     }
     if let Some(b) = routes::shown(plan, interlocking, lies, occupied) {
         return Some(b);
     }
-    trains::way_before(station, plan, lies, occupied)
+    fleet::way_before(station, plan, lies, occupied)
 }
 
 // What is locked, passed, wanted and left.
@@ -88,7 +88,7 @@ fn misheld(
     if let Some(b) = routes::no_orphan(plan, interlocking, lies, occupied) {
         return Some(b);
     }
-    if let Some(b) = trains::each_once(station) {
+    if let Some(b) = fleet::each_once(station) {
         return Some(b);
     }
     if let Some(b) = routes::falls_soon(plan, interlocking, lies, occupied) {

@@ -1,7 +1,7 @@
 use Rattle.std.proofs.Common.{◌≡◌, true, sym, ◌∙◌, below_more}
 use Rattle.plan.specs.Plan.{among}
 use Rattle.watch.proofs.Lists.{among_at, each_looked, not_both}
-use Rattle.watch.proofs.trains.shared.Goals as goal
+use Rattle.watch.proofs.fleet.shared.Goals as goal
 
 pub returns-then-found : goal.returns-then-found
 returns-then-found c = (among_at _ _ c.loop-x-test.true, sym c.found.ensures ∙ c.if-found.true)

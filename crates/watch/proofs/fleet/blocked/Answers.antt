@@ -1,7 +1,7 @@
 use Rattle.plan.specs.Plan.{marks}
 use Rattle.plan.specs.View.{plan_of}
 use Rattle.watch.proofs.Lists.{way_none, way_some, way_blocks}
-use Rattle.watch.proofs.trains.blocked.Goals as goal
+use Rattle.watch.proofs.fleet.blocked.Goals as goal
 
 pub returns-then-body-eq0 : goal.returns-then-body-eq0
 returns-then-body-eq0 c = way_none (plan_of c.args.plan) (marks c.args.lies.now) (marks c.args.occupied.now) _ _ _ c.sections_of-body.ensures c.if-body-eq0.true

@@ -1,7 +1,7 @@
 use Rattle.std.proofs.Common.{arith, below_more}
 use Rattle.model.specs.Stations.{station_world}
 use Rattle.watch.proofs.Lists.{both_ways}
-use Rattle.watch.proofs.trains.apart.Goals as goal
+use Rattle.watch.proofs.fleet.apart.Goals as goal
 
 pub loop-i-preserved : goal.loop-i-preserved
 loop-i-preserved c = below_more _ _ c.loop-i.invariant c.in_default.ensures

@@ -2,7 +2,7 @@ use Rattle.std.proofs.Common.{sym}
 use Rattle.soundness.proofs.Each.{differ_once}
 use Rattle.soundness.proofs.Loops.{differ_more, differ_all}
 use Rattle.watch.proofs.Lists.{doubled_at}
-use Rattle.watch.proofs.trains.doubled.Goals as goal
+use Rattle.watch.proofs.fleet.doubled.Goals as goal
 
 pub returns-then-found : goal.returns-then-found
 returns-then-found c = doubled_at c.args.body.now c.loop-i.i _ c.loop-i-test.true c.found.ensures c.if-found.true

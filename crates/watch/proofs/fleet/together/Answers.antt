@@ -1,7 +1,7 @@
 use Rattle.std.proofs.Common.{sym, ap, ◌∙◌, arith, below_more}
 use Rattle.plan.specs.Plan.{among}
 use Rattle.watch.proofs.Lists.{apart_by}
-use Rattle.watch.proofs.trains.together.Goals as goal
+use Rattle.watch.proofs.fleet.together.Goals as goal
 
 pub loop-j-init : goal.loop-j-init
 loop-j-init c = λ k l m. absurd (omega arith)

@@ -1,6 +1,6 @@
 use Rattle.std.proofs.Common.{arith, below_more}
 use Rattle.watch.proofs.Lists.{hangs_by, parted_by}
-use Rattle.watch.proofs.trains.standing.Goals as goal
+use Rattle.watch.proofs.fleet.standing.Goals as goal
 
 pub loop-i-preserved : goal.loop-i-preserved
 loop-i-preserved c = below_more _ _ c.loop-i.invariant (hangs_by _ _ _ _ _ _ c.goes_up.ensures c.sections_of.ensures c.in_default.ensures)

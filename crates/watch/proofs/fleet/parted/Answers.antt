@@ -2,7 +2,7 @@ use Rattle.std.proofs.Common.{refl, arith, below_more}
 use Rattle.plan.specs.Plan.{marks}
 use Rattle.plan.specs.View.{plan_of}
 use Rattle.watch.proofs.Lists.{hangs_looked, joined_is, joined_not}
-use Rattle.watch.proofs.trains.parted.Goals as goal
+use Rattle.watch.proofs.fleet.parted.Goals as goal
 
 pub loop-k-init : goal.loop-k-init
 loop-k-init c = λ j l m. absurd (omega arith)
