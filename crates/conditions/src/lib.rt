@@ -1,4 +1,5 @@
 // When a plan keeps a rule, when a request is granted, and when a train may move: the conditions alone, each in one place.
+// Each takes the bare numbers and marks that it decides by; a lock is 0 for none, as the interlocking holds it.
 #![tactic(auto)]
 
 ghost use Rattle.std.specs.Prelude.{eqb, leb, ltb, ◌&&◌, ◌||◌, not, ◌≡◌};

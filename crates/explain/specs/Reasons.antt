@@ -1,17 +1,14 @@
 -- When a reason is right, and to which outcome it belongs. Assumes nothing: these are definitions.
-use Rattle.std.specs.Prelude.{◌≡◌, ℕ, ◌<◌, ◌⊎◌, List, length, Some, None, Option, ◌≢◌, slice_index}
+use Rattle.std.specs.Prelude.{◌≡◌, ℕ, ◌<◌, ◌⊎◌, List, length, Some, None, Ok, Err, Option, Result, ◌≢◌, slice_index}
 use Rattle.plan.specs.Plan.{route}
 use Rattle.plan.specs.Numbers.{plan_in, whole, most, routes_from}
 use Rattle.plan.specs.declared.Size.{Size}
 use Rattle.plan.specs.declared.Size.TheVariants.{Sections, Points, Routes, Time}
 use Rattle.plan.specs.declared.Refusal.{Refusal}
 use Rattle.plan.specs.declared.Refusal.TheVariants.{Sizes, Length as RefusedLength, Number}
-use Rattle.soundness.specs.Rules.{FirstBroken}
+use Rattle.soundness.specs.Rules.{FirstBroken, Judges}
 use Rattle.soundness.specs.declared.Verdict.{Verdict}
 use Rattle.soundness.specs.declared.Verdict.TheVariants.{Sound as IsSound, Route as InRoute, Whole as InWhole}
-use Rattle.report.specs.Words.{Says}
-use Rattle.report.specs.declared.Outcome.{Outcome}
-use Rattle.report.specs.declared.Outcome.TheVariants.{Judged, Refused}
 use Rattle.explain.specs.declared.NumbersFault.{NumbersFault}
 use Rattle.explain.specs.declared.NumbersFault.TheVariants.{TooFew, OutOfRange, Length, Large}
 use Rattle.explain.specs.declared.Reason.{Reason}
@@ -56,17 +53,17 @@ Wrong xs (Route r f) = (r < length (plan_in xs).routes) × WrongRoute (plan_in x
 Wrong xs (Whole f) = WrongPlan (plan_in xs) f
 
 -- the outcome to which a reason belongs
-abbrev pub outcome_of : Reason → Outcome
-outcome_of (Numbers f) = Refused (refusal_of f)
-outcome_of (Route r f) = Judged (InRoute r (breaks f))
-outcome_of (Whole f) = Judged (InWhole (breaks_whole f))
+abbrev pub outcome_of : Reason → Result Verdict Refusal
+outcome_of (Numbers f) = Err (refusal_of f)
+outcome_of (Route r f) = Ok (InRoute r (breaks f))
+outcome_of (Whole f) = Ok (InWhole (breaks_whole f))
 
 -- a reason for a verdict; there is none only if the plan is sound or has another verdict
 abbrev pub Explains : List ℕ → Verdict → Option Reason → Type 0
 Explains xs v None = FirstBroken (plan_in xs) v → v ≡ IsSound
-Explains xs v (Some w) = (outcome_of w ≡ Judged v) × Wrong xs w
+Explains xs v (Some w) = (outcome_of w ≡ Ok v) × Wrong xs w
 
 -- a reason for the outcome; there is none just if the plan is sound
 abbrev pub Explained : List ℕ → Option Reason → Type 0
-Explained xs None = Says xs (Judged IsSound)
-Explained xs (Some w) = Says xs (outcome_of w) × Wrong xs w
+Explained xs None = Judges xs (Ok IsSound)
+Explained xs (Some w) = Judges xs (outcome_of w) × Wrong xs w

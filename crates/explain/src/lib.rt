@@ -11,7 +11,7 @@ pub mod why;
 pub mod words;
 
 // How the point at an end lies.
-#[derive(Clone, Copy)]
+#[derive(Clone, Copy, Debug, PartialEq, Eq)]
 pub enum Lie {
     // No point moves the end.
     Fixed,
@@ -22,18 +22,18 @@ pub enum Lie {
 }
 
 // One way beyond an end of a section.
-#[derive(Clone, Copy)]
+#[derive(Clone, Copy, Debug, PartialEq, Eq)]
 pub struct Way {
     pub up: bool,
     pub from: u16,
     pub lie: Lie,
     pub beyond: u16,
-    // What lies beyond is no section.
+    // What lies beyond is no section. Its number stands beside it all the same: the rules compare that, and `Lies` says both.
     pub outside: bool,
 }
 
 // What is wrong with a route.
-#[derive(Clone, Copy)]
+#[derive(Clone, Copy, Debug, PartialEq, Eq)]
 pub enum RouteFault {
     // It begins at this section, and there are only so many.
     NoBegin(u16, u16),
@@ -63,7 +63,7 @@ pub enum RouteFault {
 }
 
 // What is wrong with the rest of a plan.
-#[derive(Clone, Copy)]
+#[derive(Clone, Copy, Debug, PartialEq, Eq)]
 pub enum PlanFault {
     // The end that way of this section is moved by this point, and there are only so many.
     Missing(bool, u16, u16, u16),
@@ -78,7 +78,7 @@ pub enum PlanFault {
 }
 
 // Why numbers are no plan.
-#[derive(Clone, Copy)]
+#[derive(Clone, Copy, Debug, PartialEq, Eq)]
 pub enum NumbersFault {
     // There are so many numbers, too few for the sizes.
     TooFew(usize),
@@ -91,7 +91,7 @@ pub enum NumbersFault {
 }
 
 // Why numbers are not a sound plan.
-#[derive(Clone, Copy)]
+#[derive(Clone, Copy, Debug, PartialEq, Eq)]
 pub enum Reason {
     Numbers(NumbersFault),
     Route(u16, RouteFault),

@@ -14,8 +14,7 @@ fn leg(end: End, lie: Lie) -> u16
     ensures { result ≡ leg (end_of end) lie }
 {
     match lie {
-        Lie::Fixed => end.on_left,
-        Lie::Left(_) => end.on_left,
+        Lie::Fixed | Lie::Left(_) => end.on_left,
         Lie::Right(_) => end.on_right,
     }
 }
@@ -36,6 +35,7 @@ pub fn way(plan: Plan<'_>, up: bool, from: u16, lie: Lie) -> Way
 }
 
 // A side that a route does not rule out, with which an end does not lead to a section.
+#[tactic(auto, unfolding(soundness::specs::Tests::leads_to))]
 pub fn stray(route: Route<'_>, end: End, x: u16) -> Option<Lie>
     ensures { MatchOption result (leads_to (route_of route.entry).needs (end_of end) x ≡ true) (ElsewhereSo (route_of route.entry).needs (end_of end) x) }
 {
@@ -55,6 +55,7 @@ pub fn stray(route: Route<'_>, end: End, x: u16) -> Option<Lie>
 }
 
 // A side with which an end leads to a section.
+#[tactic(auto, unfolding(soundness::specs::Tests::closed))]
 pub fn open(end: End, sections: u16) -> Option<Lie>
     ensures { MatchOption result (closed sections (end_of end) ≡ true) (OpenSo sections (end_of end)) }
 {

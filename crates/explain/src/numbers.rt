@@ -5,16 +5,18 @@ ghost use Rattle.plan.specs.Numbers.{OutOfRange, Says, refused, routes_from};
 ghost use Rattle.plan.specs.declared.Refusal.TheVariants.{Sizes};
 
 use crate::NumbersFault;
-use plan::read::{most, refusal};
+use plan::read::most;
+use plan::view::Plan;
 use plan::{Refusal, Size};
 
 // The number at a place, or 0 past the end.
 fn at(numbers: &[u16], k: usize) -> u16
     ensures { result ≡ slice_index numbers.now k }
 {
-    if k < numbers.len() { numbers[k] } else { 0 }
+    numbers.get(k).copied().unwrap_or(0)
 }
 
+// Where the first route would stand; a `Plan` knows, but these numbers may be none.
 fn first_route(numbers: &[u16]) -> usize
     ensures { result ≡ routes_from numbers.now }
 {
@@ -45,7 +47,7 @@ fn sizes(numbers: &[u16], size: Size) -> NumbersFault
     }
 }
 
-fn fault(numbers: &[u16], refusal: Refusal) -> NumbersFault
+pub(crate) fn fault(numbers: &[u16], refusal: Refusal) -> NumbersFault
     requires { Says numbers.now (Some refusal) }
     ensures { TurnedAway numbers.now refusal result }
 {
@@ -63,8 +65,8 @@ fn fault(numbers: &[u16], refusal: Refusal) -> NumbersFault
 pub fn refused(numbers: &[u16]) -> Option<NumbersFault>
     ensures { MatchOption result (refused numbers.now ≡ None) (λ f. (refused numbers.now ≡ Some (refusal_of f)) × WrongNumbers numbers.now f) }
 {
-    match refusal(numbers) {
-        Some(refusal) => Some(fault(numbers, refusal)),
-        None => None,
+    match Plan::try_from(numbers) {
+        Ok(_) => None,
+        Err(refusal) => Some(fault(numbers, refusal)),
     }
 }

@@ -1,4 +1,5 @@
 // The first fault of a route, for each rule.
+// Each rule takes the plan and the route, as in `soundness::rules`: a struct of both would be made only to be taken apart.
 ghost use Rattle.std.specs.Prelude.{◌≡◌, true, length, MatchOption};
 ghost use Rattle.explain.specs.Faults.{Blames, Finds, Step, Strays};
 ghost use Rattle.plan.specs.View.{end_of, plan_of, route_of};
@@ -7,12 +8,13 @@ ghost use Rattle.soundness.specs.declared.RouteRule.TheVariants.{Begins, Goes, D
 
 use crate::lies::{stray, way};
 use crate::{RouteFault, Way};
-use plan::read::found;
+use plan::read::{found, repeated};
 use plan::route::Route;
 use plan::view::Plan;
 use soundness::rules::needs_so;
 
 // Rule 1: it begins in a section that there is, at a signal that way.
+#[tactic(auto, unfolding(soundness::specs::Tests::route_test))]
 pub fn begins(plan: Plan<'_>, route: Route<'_>) -> Option<RouteFault>
     ensures { Finds (plan_of plan.entry) (route_of route.entry) Begins result }
 {
@@ -29,6 +31,7 @@ pub fn begins(plan: Plan<'_>, route: Route<'_>) -> Option<RouteFault>
 }
 
 // Rule 2: its path isn't empty.
+#[tactic(auto, unfolding(soundness::specs::Tests::route_test, soundness::specs::Tests::empty))]
 pub fn goes(plan: Plan<'_>, route: Route<'_>) -> Option<RouteFault>
     ensures { Finds (plan_of plan.entry) (route_of route.entry) Goes result }
 {
@@ -48,26 +51,17 @@ pub fn differs(plan: Plan<'_>, route: Route<'_>) -> Option<RouteFault>
     if found(path, begin) {
         return Some(RouteFault::ComesBack(begin));
     }
-    for i in 0..path.len() {
-        if found(&path[i + 1..], path[i]) {
-            return Some(RouteFault::Twice(path[i]));
-        }
-    }
-    None
+    repeated(path).map(RouteFault::Twice)
 }
 
 // Rule 4: points can lie as it needs.
 pub fn agrees(plan: Plan<'_>, route: Route<'_>) -> Option<RouteFault>
     ensures { Finds (plan_of plan.entry) (route_of route.entry) Agrees result }
 {
-    let n = route.needs();
-    for i in 0..n {
-        let need = route.need(i);
-        if needs_so(route, need.point, !need.left) {
-            return Some(RouteFault::NeedsBoth(need.point));
-        }
-    }
-    None
+    let need = route
+        .needs()
+        .find(|need| needs_so(route, need.point, !need.left))?;
+    Some(RouteFault::NeedsBoth(need.point))
 }
 
 // Rule 5: it needs only points that there are.
@@ -75,14 +69,8 @@ pub fn knows(plan: Plan<'_>, route: Route<'_>) -> Option<RouteFault>
     ensures { Finds (plan_of plan.entry) (route_of route.entry) Knows result }
 {
     let points = plan.points();
-    let n = route.needs();
-    for i in 0..n {
-        let q = route.need(i).point;
-        if points <= q {
-            return Some(RouteFault::NoPoint(q, points));
-        }
-    }
-    None
+    let need = route.needs().find(|need| points <= need.point)?;
+    Some(RouteFault::NoPoint(need.point, points))
 }
 
 // Rule 7: no section of its path but the last has a signal that way.
@@ -92,15 +80,12 @@ pub fn passes(plan: Plan<'_>, route: Route<'_>) -> Option<RouteFault>
     let up = route.up();
     let path = route.path();
     let inner = &path[0..path.len().saturating_sub(1)];
-    for x in inner {
-        if plan.signal(up, *x) {
-            return Some(RouteFault::Signal(up, *x));
-        }
-    }
-    None
+    let x = inner.iter().copied().find(|x| plan.signal(up, *x))?;
+    Some(RouteFault::Signal(up, x))
 }
 
 // Rule 8: the last has one, or is an edge.
+#[tactic(auto, unfolding(soundness::specs::Tests::route_test))]
 pub fn ends(plan: Plan<'_>, route: Route<'_>) -> Option<RouteFault>
     ensures { Finds (plan_of plan.entry) (route_of route.entry) Ends result }
 {
@@ -117,28 +102,21 @@ pub fn ends(plan: Plan<'_>, route: Route<'_>) -> Option<RouteFault>
 pub fn holds(plan: Plan<'_>, route: Route<'_>) -> Option<RouteFault>
     ensures { Finds (plan_of plan.entry) (route_of route.entry) Holds result }
 {
-    let path = route.path();
-    let n = plan.points();
-    for q in 0..n {
-        let x = plan.place(q);
-        if found(path, x) & !route.needs_point(q) {
-            return Some(RouteFault::NotNeeded(q, x));
-        }
-    }
-    None
+    let q = (0..plan.points()).find(|q| found(route.path(), plan.place(*q))
+        & !route.needs_point(*q))?;
+    Some(RouteFault::NotNeeded(q, plan.place(q)))
 }
 
 // The way from one section of a path to the next, or back, that leads elsewhere.
 fn astray(plan: Plan<'_>, route: Route<'_>, up: bool, a: u16, b: u16) -> Option<Way>
     ensures { MatchOption result (leads_to (route_of route.entry).needs ((plan_of plan.entry).end up a) b ≡ true) (Strays (plan_of plan.entry) (route_of route.entry).needs up a b) }
 {
-    match stray(route, plan.end(up, a), b) {
-        Some(lie) => Some(way(plan, up, a, lie)),
-        None => None,
-    }
+    let lie = stray(route, plan.end(up, a), b)?;
+    Some(way(plan, up, a, lie))
 }
 
 // What is wrong with the step of a path from one section to the next.
+#[tactic(auto, unfolding(soundness::specs::Tests::joins))]
 fn step(plan: Plan<'_>, route: Route<'_>, a: u16, b: u16) -> Option<RouteFault>
     requires { Step (route_of route) a b }
     ensures { MatchOption result (joins (plan_of plan.entry) (route_of route.entry).needs (route_of route.entry).up a b ≡ true) (Blames (plan_of plan.entry) (route_of route.entry) Hangs) }
@@ -151,10 +129,7 @@ fn step(plan: Plan<'_>, route: Route<'_>, a: u16, b: u16) -> Option<RouteFault>
     if let Some(ahead) = astray(plan, route, up, a, b) {
         return Some(RouteFault::Astray(ahead, b));
     }
-    match astray(plan, route, !up, b, a) {
-        Some(back) => Some(RouteFault::NoReturn(back, a)),
-        None => None,
-    }
+    astray(plan, route, !up, b, a).map(|back| RouteFault::NoReturn(back, a))
 }
 
 // Rule 6: however the others lie, its path hangs together, and its sections are there.

@@ -1,4 +1,5 @@
 // The first fault of the whole plan, for each rule.
+// That a section is there stands in three contracts: a type for it would hold the plan, and be made anew for each number of a range.
 ghost use Rattle.std.specs.Prelude.{◌≡◌, ◌<◌, true, false, not, ◌&&◌, ◌||◌, MatchOption, nat_lt};
 ghost use Rattle.explain.specs.Faults.{BlamesWhole, FindsWhole};
 ghost use Rattle.plan.specs.View.{plan_of};
@@ -10,6 +11,7 @@ use crate::lies::{open, way};
 use plan::view::Plan;
 
 // An end that is moved by a point that is not there, or has its place elsewhere.
+#[tactic(auto, unfolding(soundness::specs::Tests::own))]
 fn foreign(plan: Plan<'_>, up: bool, x: u16) -> Option<PlanFault>
     requires { x < (plan_of plan).sections }
     ensures { MatchOption result (own (plan_of plan.entry) up x ≡ true) (BlamesWhole (plan_of plan.entry) Places) }
@@ -28,67 +30,46 @@ fn foreign(plan: Plan<'_>, up: bool, x: u16) -> Option<PlanFault>
     }
 }
 
+// The same of either end of a section.
 fn foreign_at(plan: Plan<'_>, x: u16) -> Option<PlanFault>
     requires { x < (plan_of plan).sections }
     ensures { MatchOption result ((own (plan_of plan.entry) true x && own (plan_of plan.entry) false x) ≡ true) (BlamesWhole (plan_of plan.entry) Places) }
 {
-    match foreign(plan, true, x) {
-        Some(fault) => Some(fault),
-        None => foreign(plan, false, x),
-    }
+    foreign(plan, true, x).or(foreign(plan, false, x))
 }
 
 fn all_own(plan: Plan<'_>) -> Option<PlanFault>
     ensures { MatchOption result (all_below (plan_of plan.entry).sections (λ x. own (plan_of plan.entry) true x && own (plan_of plan.entry) false x) ≡ true) (BlamesWhole (plan_of plan.entry) Places) }
 {
-    let n = plan.sections();
-    for x in 0..n {
-        if let Some(fault) = foreign_at(plan, x) {
-            return Some(fault);
-        }
-    }
-    None
+    (0..plan.sections()).find_map(|x| foreign_at(plan, x))
 }
 
 fn all_placed(plan: Plan<'_>) -> Option<PlanFault>
     ensures { MatchOption result (all_below (plan_of plan.entry).points (λ q. nat_lt ((plan_of plan.entry).place q) (plan_of plan.entry).sections) ≡ true) (BlamesWhole (plan_of plan.entry) Places) }
 {
-    let sections = plan.sections();
-    let n = plan.points();
-    for q in 0..n {
-        let place = plan.place(q);
-        if sections <= place {
-            return Some(PlanFault::NoPlace(q, place, sections));
-        }
-    }
-    None
+    let n = plan.sections();
+    let q = (0..plan.points()).find(|q| n <= plan.place(*q))?;
+    Some(PlanFault::NoPlace(q, plan.place(q), n))
 }
 
 // Rule 10: a point that moves what is beyond an end is there, and has its place in that section; and every place is a section.
+#[tactic(auto, unfolding(soundness::specs::Tests::whole_test))]
 pub fn places(plan: Plan<'_>) -> Option<PlanFault>
     ensures { FindsWhole (plan_of plan.entry) Places result }
 {
-    match all_own(plan) {
-        Some(fault) => Some(fault),
-        None => all_placed(plan),
-    }
+    all_own(plan).or(all_placed(plan))
 }
 
 // Rule 11: no point has its place in an edge.
 pub fn clears(plan: Plan<'_>) -> Option<PlanFault>
     ensures { FindsWhole (plan_of plan.entry) Clears result }
 {
-    let n = plan.points();
-    for q in 0..n {
-        let place = plan.place(q);
-        if plan.edge(place) {
-            return Some(PlanFault::InEdge(q, place));
-        }
-    }
-    None
+    let q = (0..plan.points()).find(|q| plan.edge(plan.place(*q)))?;
+    Some(PlanFault::InEdge(q, plan.place(q)))
 }
 
 // An end of an edge with no signal, and a section beyond it.
+#[tactic(auto, unfolding(soundness::specs::Tests::shut))]
 fn open_end(plan: Plan<'_>, x: u16, up: bool) -> Option<PlanFault>
     requires { (x < (plan_of plan).sections) × ((plan_of plan).edge x ≡ true) }
     ensures { MatchOption result (shut (plan_of plan.entry) x up ≡ true) (BlamesWhole (plan_of plan.entry) Closes) }
@@ -96,12 +77,11 @@ fn open_end(plan: Plan<'_>, x: u16, up: bool) -> Option<PlanFault>
     if plan.signal(up, x) {
         return None;
     }
-    match open(plan.end(up, x), plan.sections()) {
-        Some(lie) => Some(PlanFault::Open(way(plan, up, x, lie))),
-        None => None,
-    }
+    let lie = open(plan.end(up, x), plan.sections())?;
+    Some(PlanFault::Open(way(plan, up, x, lie)))
 }
 
+// The same of either end of a section that is an edge.
 fn open_at(plan: Plan<'_>, x: u16) -> Option<PlanFault>
     requires { x < (plan_of plan).sections }
     ensures { MatchOption result ((not ((plan_of plan.entry).edge x) || (shut (plan_of plan.entry) x true && shut (plan_of plan.entry) x false)) ≡ true) (BlamesWhole (plan_of plan.entry) Closes) }
@@ -109,21 +89,12 @@ fn open_at(plan: Plan<'_>, x: u16) -> Option<PlanFault>
     if !plan.edge(x) {
         return None;
     }
-    match open_end(plan, x, true) {
-        Some(fault) => Some(fault),
-        None => open_end(plan, x, false),
-    }
+    open_end(plan, x, true).or(open_end(plan, x, false))
 }
 
 // Rule 12: each end of an edge has a signal that way or, however points lie, outside beyond it.
 pub fn closes(plan: Plan<'_>) -> Option<PlanFault>
     ensures { FindsWhole (plan_of plan.entry) Closes result }
 {
-    let n = plan.sections();
-    for x in 0..n {
-        if let Some(fault) = open_at(plan, x) {
-            return Some(fault);
-        }
-    }
-    None
+    (0..plan.sections()).find_map(|x| open_at(plan, x))
 }

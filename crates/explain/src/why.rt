@@ -56,14 +56,8 @@ pub fn reason(plan: Plan<'_>, verdict: Verdict) -> Option<Reason>
 {
     match verdict {
         Verdict::Sound => None,
-        Verdict::Route(r, rule) => match fault_in(plan, r, rule) {
-            Some(fault) => Some(Reason::Route(r, fault)),
-            None => None,
-        },
-        Verdict::Whole(rule) => match whole_fault(plan, rule) {
-            Some(fault) => Some(Reason::Whole(fault)),
-            None => None,
-        },
+        Verdict::Route(r, rule) => fault_in(plan, r, rule).map(|fault| Reason::Route(r, fault)),
+        Verdict::Whole(rule) => whole_fault(plan, rule).map(Reason::Whole),
     }
 }
 
@@ -71,9 +65,9 @@ pub fn reason(plan: Plan<'_>, verdict: Verdict) -> Option<Reason>
 pub fn explain(numbers: &[u16]) -> Option<Reason>
     ensures { Explained numbers.now result }
 {
-    match numbers::refused(numbers) {
-        Some(fault) => Some(Reason::Numbers(fault)),
-        None => judged(Plan::new(numbers)),
+    match Plan::try_from(numbers) {
+        Ok(plan) => judged(plan),
+        Err(refusal) => Some(Reason::Numbers(numbers::fault(numbers, refusal))),
     }
 }
 

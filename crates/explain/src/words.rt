@@ -3,55 +3,30 @@ use crate::{Lie, NumbersFault, PlanFault, Reason, RouteFault, Way};
 use plan::Size;
 use std::fmt;
 
+// The way of a train; `plan::side` has the words for a point.
 fn way_word(up: bool) -> &'static str {
     if up { "up" } else { "down" }
 }
 
-fn only(n: u16) -> &'static str {
-    if n == 1 {
-        ", and there is only "
-    } else {
-        ", and there are only "
-    }
-}
-
-fn sections(n: u16) -> &'static str {
-    if n == 1 { " section" } else { " sections" }
-}
-
-fn points(n: u16) -> &'static str {
-    if n == 1 { " point" } else { " points" }
-}
-
-// A sentence with two numbers.
+// How many of a thing there are, where more were named.
 #[derive(Clone, Copy)]
-struct Sentence {
-    first: &'static str,
-    x: usize,
-    then: &'static str,
-    y: usize,
-    last: &'static str,
+struct Only {
+    n: u16,
+    thing: &'static str,
 }
 
-impl fmt::Display for Sentence {
+impl fmt::Display for Only {
     fn fmt<W: fmt::Write>(&self, f: &mut fmt::Formatter<W>) -> fmt::Result {
-        let first = self.first;
-        let x = self.x;
-        let then = self.then;
-        let y = self.y;
-        let last = self.last;
-        write!(f, "{first}{x}{then}{y}{last}")
+        if self.n == 1 {
+            write!(f, "there is only 1 {}", self.thing)
+        } else {
+            write!(f, "there are only {} {}s", self.n, self.thing)
+        }
     }
 }
 
-fn words(first: &'static str, x: u16, then: &'static str, y: u16, last: &'static str) -> Sentence {
-    Sentence {
-        first,
-        x: usize::from(x),
-        then,
-        y: usize::from(y),
-        last,
-    }
+fn there_are(n: u16, thing: &'static str) -> Only {
+    Only { n, thing }
 }
 
 // How the point of an end lies, as the beginning of what is said of the end.
@@ -67,267 +42,141 @@ impl fmt::Display for Lie {
 
 // The same of a point that a route leaves free.
 #[derive(Clone, Copy)]
-struct Free {
-    lie: Lie,
-}
+struct Free(Lie);
 
 impl fmt::Display for Free {
     fn fmt<W: fmt::Write>(&self, f: &mut fmt::Formatter<W>) -> fmt::Result {
-        match self.lie {
+        let lie = self.0;
+        match lie {
             Lie::Fixed => Ok(()),
-            Lie::Left(q) => write!(
-                f,
-                "with point {q} on the left, which the route does not need right, "
-            ),
-            Lie::Right(q) => write!(
-                f,
-                "with point {q} on the right, which the route does not need left, "
-            ),
+            Lie::Left(_) => write!(f, "{lie}which the route does not need right, "),
+            Lie::Right(_) => write!(f, "{lie}which the route does not need left, "),
         }
     }
 }
 
 // What a way leads to.
 #[derive(Clone, Copy)]
-struct Place {
-    way: Way,
-}
+struct Place(Way);
 
 impl fmt::Display for Place {
     fn fmt<W: fmt::Write>(&self, f: &mut fmt::Formatter<W>) -> fmt::Result {
-        let x = self.way.beyond;
-        if self.way.outside {
+        if self.0.outside {
             write!(f, "outside")
         } else {
-            write!(f, "section {x}")
+            write!(f, "section {}", self.0.beyond)
         }
     }
 }
 
-// A step of a path that leads elsewhere.
-#[derive(Clone, Copy)]
-struct Ahead {
-    way: Way,
-    to: u16,
-}
-
-impl fmt::Display for Ahead {
-    fn fmt<W: fmt::Write>(&self, f: &mut fmt::Formatter<W>) -> fmt::Result {
-        let a = self.way.from;
-        let b = self.to;
-        let up = way_word(self.way.up);
-        let free = Free { lie: self.way.lie };
-        let place = Place { way: self.way };
-        write!(
-            f,
-            "goes {up} from section {a} to section {b}, but {free}{place} lies beyond"
-        )
-    }
-}
-
-// A step of a path whose way back leads elsewhere.
-#[derive(Clone, Copy)]
-struct Back {
-    way: Way,
-    to: u16,
-}
-
-impl fmt::Display for Back {
-    fn fmt<W: fmt::Write>(&self, f: &mut fmt::Formatter<W>) -> fmt::Result {
-        let a = self.to;
-        let b = self.way.from;
-        let up = way_word(!self.way.up);
-        let down = way_word(self.way.up);
-        let free = Free { lie: self.way.lie };
-        let place = Place { way: self.way };
-        let to = if self.way.outside { "" } else { "to " };
-        write!(
-            f,
-            "goes {up} from section {a} to section {b}, but {free}going {down} from section {b} one comes {to}{place}, not to section {a}"
-        )
-    }
-}
-
-fn no_signal(up: bool) -> &'static str {
-    if up {
-        " has no signal up"
-    } else {
-        " has no signal down"
-    }
-}
-
-fn going(up: bool) -> &'static str {
-    if up {
-        " going up, and section "
-    } else {
-        " going down, and section "
-    }
-}
-
-fn no_end(up: bool) -> &'static str {
-    if up {
-        " has no signal up and is no edge"
-    } else {
-        " has no signal down and is no edge"
-    }
-}
-
-fn signal(up: bool) -> &'static str {
-    if up {
-        " has a signal up and is not the last of its path"
-    } else {
-        " has a signal down and is not the last of its path"
-    }
-}
-
-// What is wrong with a route, after its name; the steps of its path aside.
-fn route_words(fault: RouteFault) -> Option<Sentence> {
-    match fault {
-        RouteFault::NoBegin(x, n) => Some(words("begins at section ", x, only(n), n, sections(n))),
-        RouteFault::NoSignal(up, x) => {
-            Some(words("begins at section ", x, going(up), x, no_signal(up)))
-        }
-        RouteFault::ComesBack(x) => {
-            Some(words(
-                "begins at section ",
-                x,
-                ", and section ",
-                x,
-                " stands in its path",
-            ))
-        }
-        RouteFault::Twice(x) => {
-            Some(words(
-                "goes through section ",
-                x,
-                ", and through section ",
-                x,
-                " again",
-            ))
-        }
-        RouteFault::NeedsBoth(q) => Some(words(
-            "needs point ",
-            q,
-            " left, and point ",
-            q,
-            " right",
-        )),
-        RouteFault::NoPoint(q, n) => Some(words("needs point ", q, only(n), n, points(n))),
-        RouteFault::NoSection(x, n) => {
-            Some(words("goes through section ", x, only(n), n, sections(n)))
-        }
-        RouteFault::Signal(up, x) => {
-            Some(words("passes section ", x, ", and section ", x, signal(up)))
-        }
-        RouteFault::NoEnd(up, x) => {
-            Some(words("ends at section ", x, ", and section ", x, no_end(up)))
-        }
-        RouteFault::NotNeeded(q, x) => {
-            Some(words(
-                "goes through section ",
-                x,
-                ", where point ",
-                q,
-                " lies, and does not need it",
-            ))
-        }
-        RouteFault::NoPath | RouteFault::Astray(_, _) | RouteFault::NoReturn(_, _) => None,
-    }
-}
-
+// What is wrong with a route, after its name.
 impl fmt::Display for RouteFault {
     fn fmt<W: fmt::Write>(&self, f: &mut fmt::Formatter<W>) -> fmt::Result {
-        if let Some(words) = route_words(*self) {
-            return write!(f, "{words}");
-        }
         match *self {
-            RouteFault::Astray(way, to) => {
-                let step = Ahead { way, to };
-                write!(f, "{step}")
+            RouteFault::NoBegin(x, n) => {
+                write!(f, "begins at section {x}, and {}", there_are(n, "section"))
             }
-            RouteFault::NoReturn(way, to) => {
-                let step = Back { way, to };
-                write!(f, "{step}")
+            RouteFault::NoSignal(up, x) => {
+                let up = way_word(up);
+                write!(
+                    f,
+                    "begins at section {x} going {up}, and section {x} has no signal {up}"
+                )
             }
-            _ => write!(f, "has no sections in its path"),
+            RouteFault::NoPath => write!(f, "has no sections in its path"),
+            RouteFault::ComesBack(x) => write!(
+                f,
+                "begins at section {x}, and section {x} stands in its path"
+            ),
+            RouteFault::Twice(x) => write!(
+                f,
+                "goes through section {x}, and through section {x} again"
+            ),
+            RouteFault::NeedsBoth(q) => write!(f, "needs point {q} left, and point {q} right"),
+            RouteFault::NoPoint(q, n) => write!(
+                f,
+                "needs point {q}, and {}",
+                there_are(n, "point")
+            ),
+            RouteFault::NoSection(x, n) => {
+                write!(
+                    f,
+                    "goes through section {x}, and {}",
+                    there_are(n, "section")
+                )
+            }
+            RouteFault::Astray(way, b) => write!(
+                f,
+                "goes {} from section {} to section {b}, but {}{} lies beyond",
+                way_word(way.up),
+                way.from,
+                Free(way.lie),
+                Place(way)
+            ),
+            RouteFault::NoReturn(back, a) => {
+                let b = back.from;
+                let to = if back.outside { "" } else { "to " };
+                write!(
+                    f,
+                    "goes {} from section {a} to section {b}, but {}going {} from section {b} one comes {to}{}, not to section {a}",
+                    way_word(!back.up),
+                    Free(back.lie),
+                    way_word(back.up),
+                    Place(back)
+                )
+            }
+            RouteFault::Signal(up, x) => write!(
+                f,
+                "passes section {x}, and section {x} has a signal {} and is not the last of its path",
+                way_word(up)
+            ),
+            RouteFault::NoEnd(up, x) => write!(
+                f,
+                "ends at section {x}, and section {x} has no signal {} and is no edge",
+                way_word(up)
+            ),
+            RouteFault::NotNeeded(q, x) => write!(
+                f,
+                "goes through section {x}, where point {q} lies, and does not need it"
+            ),
         }
-    }
-}
-
-// An end that is moved by a point.
-#[derive(Clone, Copy)]
-struct MovedEnd {
-    up: bool,
-    x: u16,
-    q: u16,
-}
-
-impl fmt::Display for MovedEnd {
-    fn fmt<W: fmt::Write>(&self, f: &mut fmt::Formatter<W>) -> fmt::Result {
-        let up = way_word(self.up);
-        let x = self.x;
-        let q = self.q;
-        write!(f, "the end {up} of section {x} is moved by point {q}")
-    }
-}
-
-// An end of an edge with a section beyond it.
-#[derive(Clone, Copy)]
-struct OpenEnd {
-    way: Way,
-}
-
-impl fmt::Display for OpenEnd {
-    fn fmt<W: fmt::Write>(&self, f: &mut fmt::Formatter<W>) -> fmt::Result {
-        let x = self.way.from;
-        let up = way_word(self.way.up);
-        let lie = self.way.lie;
-        let place = Place { way: self.way };
-        write!(
-            f,
-            "section {x} is an edge with no signal {up}, but {lie}{place} lies beyond its end {up}"
-        )
     }
 }
 
 impl fmt::Display for PlanFault {
     fn fmt<W: fmt::Write>(&self, f: &mut fmt::Formatter<W>) -> fmt::Result {
         match *self {
-            PlanFault::Missing(up, x, q, n) => {
-                let end = MovedEnd { up, x, q };
-                let only = only(n);
-                let points = points(n);
-                write!(f, "{end}{only}{n}{points}")
-            }
-            PlanFault::Elsewhere(up, x, q, place) => {
-                let end = MovedEnd { up, x, q };
-                write!(f, "{end}, which has its place in section {place}")
-            }
-            PlanFault::NoPlace(q, place, n) => {
-                let words = words("point ", q, " has its place in section ", place, only(n));
-                let sections = sections(n);
-                write!(f, "{words}{n}{sections}")
-            }
-            PlanFault::InEdge(q, x) => {
+            PlanFault::Missing(up, x, q, n) => write!(
+                f,
+                "the end {} of section {x} is moved by point {q}, and {}",
+                way_word(up),
+                there_are(n, "point")
+            ),
+            PlanFault::Elsewhere(up, x, q, place) => write!(
+                f,
+                "the end {} of section {x} is moved by point {q}, which has its place in section {place}",
+                way_word(up)
+            ),
+            PlanFault::NoPlace(q, place, n) => write!(
+                f,
+                "point {q} has its place in section {place}, and {}",
+                there_are(n, "section")
+            ),
+            PlanFault::InEdge(q, x) => write!(
+                f,
+                "point {q} has its place in section {x}, which is an edge"
+            ),
+            PlanFault::Open(way) => {
+                let up = way_word(way.up);
                 write!(
                     f,
-                    "point {q} has its place in section {x}, which is an edge"
+                    "section {} is an edge with no signal {up}, but {}{} lies beyond its end {up}",
+                    way.from,
+                    way.lie,
+                    Place(way)
                 )
             }
-            PlanFault::Open(way) => {
-                let end = OpenEnd { way };
-                write!(f, "{end}")
-            }
         }
-    }
-}
-
-fn size_words(size: Size) -> (&'static str, usize) {
-    match size {
-        Size::Sections => (" sections, and may have 1 to ", 64),
-        Size::Points => (" points, and may have at most ", 32),
-        Size::Routes => (" routes, and may have at most ", 64),
-        Size::Time => (" ticks of time, and may have at most ", 1000),
     }
 }
 
@@ -337,10 +186,19 @@ impl fmt::Display for NumbersFault {
             NumbersFault::TooFew(n) => {
                 write!(f, "there are {n} numbers, and a plan has at least 4")
             }
-            NumbersFault::OutOfRange(size, n) => {
-                let (then, most) = size_words(size);
-                write!(f, "the plan has {n}{then}{most}")
+            NumbersFault::OutOfRange(Size::Sections, n) => {
+                write!(f, "the plan has {n} sections, and may have 1 to 64")
             }
+            NumbersFault::OutOfRange(Size::Points, n) => {
+                write!(f, "the plan has {n} points, and may have at most 32")
+            }
+            NumbersFault::OutOfRange(Size::Routes, n) => {
+                write!(f, "the plan has {n} routes, and may have at most 64")
+            }
+            NumbersFault::OutOfRange(Size::Time, n) => write!(
+                f,
+                "the plan has {n} ticks of time, and may have at most 1000"
+            ),
             NumbersFault::Length(n, whole) => write!(
                 f,
                 "there are {n} numbers, and with these sizes there should be {whole}"

@@ -1,21 +1,15 @@
 -- A loop that goes through a list and stops at the first element that fails a test: `F` is the test of a whole list, `f` that of one element.
-use Rattle.std.proofs.Common.{◌≡◌, ℕ, zero, suc, ◌+◌, ◌-◌, ◌<◌, ◌≤◌, Bool, true, false, ◌&&◌, ◌||◌, List, [], ◌∷◌, length, get_or, drop, sym, refl, ap, ◌∙◌, arith}
+use Rattle.std.proofs.Common.{◌≡◌, ℕ, zero, suc, ◌+◌, ◌-◌, ◌<◌, ◌≤◌, Bool, true, false, ◌&&◌, ◌||◌, List, [], ◌∷◌, Option, None, Some, length, get_or, drop, sym, refl, ap, arith}
 use Rattle.std.proofs.lemmas.List.{at_drop_more, at_drop_all}
-use Rattle.plan.specs.Plan.{last_of}
+use Rattle.std.specs.List.{AllWithin, HoldsAt, list_all, list_any}
+use Rattle.std.specs.Option.{MatchOption}
+use Rattle.plan.specs.View.{no_need}
+use Rattle.plan.specs.declared.Need.{Need}
+use Rattle.plan.specs.Plan.{among, last_of, repeated}
 
 -- the test of a list is that of its first element, and that of the rest
 abbrev pub Ands : {X : Type 0} → (List X → Bool) → (X → Bool) → Type 0
 Ands {X} F f = (x : X) (xs : List X) → F (x ∷ xs) ≡ f x && F xs
-
-pub ands_more : {X : Type 0} (F : List X → Bool) (f : X → Bool) → Ands F f → (xs : List X) (i : ℕ) (d : X) (t b : Bool) →
-    i < length xs → F (drop i xs) ≡ t → b ≡ f (get_or xs i d) → b ≡ true → F (drop (i + 1) xs) ≡ t
-ands_more F f a xs i d t b l e p q =
-    let u = at_drop_more F xs i d l in let v = a (get_or xs i d) (drop (i + 1) xs) in cc
-
-pub ands_stop : {X : Type 0} (F : List X → Bool) (f : X → Bool) → Ands F f → (xs : List X) (i : ℕ) (d : X) (t b : Bool) →
-    i < length xs → F (drop i xs) ≡ t → b ≡ f (get_or xs i d) → b ≡ false → false ≡ t
-ands_stop F f a xs i d t b l e p q =
-    let u = at_drop_more F xs i d l in let v = a (get_or xs i d) (drop (i + 1) xs) in cc
 
 pub ands_all : {X : Type 0} (F : List X → Bool) → F [] ≡ true → (xs : List X) (i : ℕ) (t : Bool) →
     length xs ≤ i → F (drop i xs) ≡ t → true ≡ t
@@ -39,45 +33,8 @@ folds_all F xs i s t l e = let u = at_drop_all (λ ys. F ys s) xs i l in cc
 abbrev pub Ors : {X : Type 0} → (List X → Bool) → (X → Bool) → Type 0
 Ors {X} F f = (x : X) (xs : List X) → F (x ∷ xs) ≡ f x || F xs
 
-pub ors_more : {X : Type 0} (F : List X → Bool) (f : X → Bool) → Ors F f → (xs : List X) (i : ℕ) (d : X) (t : Bool) →
-    i < length xs → F (drop i xs) ≡ t → f (get_or xs i d) ≡ false → F (drop (i + 1) xs) ≡ t
-ors_more F f a xs i d t l e p =
-    let u = at_drop_more F xs i d l in let v = a (get_or xs i d) (drop (i + 1) xs) in cc
-
-pub ors_stop : {X : Type 0} (F : List X → Bool) (f : X → Bool) → Ors F f → (xs : List X) (i : ℕ) (d : X) (t : Bool) →
-    i < length xs → F (drop i xs) ≡ t → f (get_or xs i d) ≡ true → true ≡ t
-ors_stop F f a xs i d t l e p =
-    let u = at_drop_more F xs i d l in let v = a (get_or xs i d) (drop (i + 1) xs) in cc
-
-pub ors_all : {X : Type 0} (F : List X → Bool) → F [] ≡ false → (xs : List X) (i : ℕ) (t : Bool) →
-    length xs ≤ i → F (drop i xs) ≡ t → false ≡ t
-ors_all F n xs i t l e = let u = at_drop_all F xs i l in cc
-
--- lists read by index: m is how many there are, and x what stands at i
-pub some_stop : {X : Type 0} (F : List X → Bool) (f : X → Bool) → Ors F f → (xs : List X) (i m : ℕ) (d x : X) (t : Bool) →
-    i < m → m ≡ length xs → F (drop i xs) ≡ t → x ≡ get_or xs i d → f x ≡ true → true ≡ t
-some_stop F f a xs i m d x t l e h g k = let n : i < length xs = omega arith in ors_stop F f a xs i d t n h (ap f (sym g) ∙ k)
-
-pub some_more : {X : Type 0} (F : List X → Bool) (f : X → Bool) → Ors F f → (xs : List X) (i m : ℕ) (d x : X) (t : Bool) →
-    i < m → m ≡ length xs → F (drop i xs) ≡ t → x ≡ get_or xs i d → f x ≡ false → F (drop (i + 1) xs) ≡ t
-some_more F f a xs i m d x t l e h g k = let n : i < length xs = omega arith in ors_more F f a xs i d t n h (ap f (sym g) ∙ k)
-
-pub some_none : {X : Type 0} (F : List X → Bool) → F [] ≡ false → (xs : List X) (i m : ℕ) (t : Bool) → m ≤ i → m ≡ length xs → F (drop i xs) ≡ t → false ≡ t
-some_none F n xs i m t l e h = ors_all F n xs i t (omega arith) h
-
-pub each_stop : {X : Type 0} (F : List X → Bool) (f : X → Bool) → Ands F f → (xs : List X) (i m : ℕ) (d x : X) (t : Bool) →
-    i < m → m ≡ length xs → F (drop i xs) ≡ t → x ≡ get_or xs i d → f x ≡ false → false ≡ t
-each_stop F f a xs i m d x t l e h g k = let n : i < length xs = omega arith in ands_stop F f a xs i d t (f x) n h (ap f g) k
-
-pub each_more : {X : Type 0} (F : List X → Bool) (f : X → Bool) → Ands F f → (xs : List X) (i m : ℕ) (d x : X) (t : Bool) →
-    i < m → m ≡ length xs → F (drop i xs) ≡ t → x ≡ get_or xs i d → f x ≡ true → F (drop (i + 1) xs) ≡ t
-each_more F f a xs i m d x t l e h g k = let n : i < length xs = omega arith in ands_more F f a xs i d t (f x) n h (ap f g) k
-
-pub each_all : {X : Type 0} (F : List X → Bool) → F [] ≡ true → (xs : List X) (i m : ℕ) (t : Bool) → m ≤ i → m ≡ length xs → F (drop i xs) ≡ t → true ≡ t
-each_all F n xs i m t l e h = ands_all F n xs i t (omega arith) h
-
 -- the last of a path
-last_at : (d : ℕ) (xs : List ℕ) (k : ℕ) → suc k ≡ length xs → get_or xs k 0 ≡ last_of d xs
+pub last_at : (d : ℕ) (xs : List ℕ) (k : ℕ) → suc k ≡ length xs → get_or xs k 0 ≡ last_of d xs
 unfolding last_of
 last_at d [] k h = omega arith
 last_at d (x ∷ []) zero h = refl
@@ -91,3 +48,47 @@ pub last_nil : (xs : List ℕ) → length xs ≡ 0 → last_of 0 xs ≡ 0
 unfolding last_of
 last_nil [] h = refl
 last_nil (x ∷ xs) h = absurd (omega arith)
+
+-- the last of a path, or 0
+pub last_or : (xs : List ℕ) → get_or xs (length xs - 1) 0 ≡ last_of 0 xs
+unfolding last_of
+last_or [] = refl
+last_or (x ∷ xs) = last_is (x ∷ xs) (omega arith)
+
+-- A test of a whole list that goes by its first element and the rest is the library's.
+pub all_is : {X : Type 0} (F : List X → Bool) (f : X → Bool) → F [] ≡ true → Ands F f → (xs : List X) → list_all f xs ≡ F xs
+all_is F f n a [] = sym n
+all_is F f n a (x ∷ xs) = let e = all_is F f n a xs in let s = a x xs in cc
+
+pub any_is : {X : Type 0} (F : List X → Bool) (f : X → Bool) → F [] ≡ false → Ors F f → (xs : List X) → list_any f xs ≡ F xs
+any_is F f n a [] = sym n
+any_is F f n a (x ∷ xs) = let e = any_is F f n a xs in let s = a x xs in cc
+
+-- A loop that looks for the first section that stands again.
+pub repeated_here : (x : ℕ) (xs rest : List ℕ) (b : Bool) (t : Option ℕ) → rest ≡ x ∷ xs → b ≡ among x xs → b ≡ true → repeated rest ≡ t → Some x ≡ t
+unfolding repeated
+repeated_here x xs rest b t e f g h = let u = ap repeated e in cc
+
+pub repeated_behind : (x : ℕ) (xs rest : List ℕ) (b : Bool) (t : Option ℕ) → rest ≡ x ∷ xs → b ≡ among x xs → b ≡ false → repeated rest ≡ t → repeated xs ≡ t
+unfolding repeated
+repeated_behind x xs rest b t e f g h = let u = ap repeated e in cc
+
+pub repeated_no_more : (rest : List ℕ) (t : Option ℕ) → length rest ≡ 0 → repeated rest ≡ t → None ≡ t
+unfolding repeated
+repeated_no_more [] t e h = h
+repeated_no_more (x ∷ xs) t e h = absurd (omega arith)
+
+-- What a search through needs came to, by their places.
+pub found_need : (ns : List Need) (o : Option Need) (No Yes : Need → Type 0) →
+    MatchOption o (AllWithin No ns 0 (length ns)) (λ n. Yes n × (i : ℕ) × (i < length ns) × HoldsAt (λ m. m ≡ n) ns i × AllWithin No ns 0 i) →
+    MatchOption o ((i : ℕ) → i < length ns → No (get_or ns i no_need)) (λ n. (i : ℕ) × (i < length ns) × (get_or ns i no_need ≡ n) × Yes n)
+found_need ns None No Yes h = λ i l. h i no_need (omega arith) l
+found_need ns (Some n) No Yes h = (h.1, h.2, h.3 no_need, h.0)
+
+-- a test that each place passes
+pub all_at_places : (F : List Need → Bool) (f : Need → Bool) → F [] ≡ true → Ands F f → (ns : List Need) → ((i : ℕ) → i < length ns → f (get_or ns i no_need) ≡ true) → F ns ≡ true
+all_at_places F f n a [] h = n
+all_at_places F f n a (x ∷ ns) h =
+    let e = h 0 (omega arith) in
+    let r = all_at_places F f n a ns (λ i l. h (suc i) (omega arith)) in
+    let s = a x ns in cc

@@ -1,5 +1,5 @@
 -- A plan in numbers, and which numbers are turned away. Assumes nothing: these are definitions.
-use Rattle.std.specs.Prelude.{◌≡◌, ℕ, zero, suc, ◌+◌, ◌-◌, ◌*◌, ◌%◌, ◌<◌, ◌≤◌, Bool, ◌&&◌, ◌||◌, List, [], ◌∷◌, length, Some, None, Option, ◌==◌, ◌≢◌, nat_le, slice_index, slice_index_or}
+use Rattle.std.specs.Prelude.{◌≡◌, ℕ, zero, suc, ◌+◌, ◌-◌, ◌*◌, ◌%◌, ◌<◌, ◌≤◌, Bool, ◌&&◌, ◌||◌, List, [], ◌∷◌, ◌++◌, codes, decimal, length, Some, None, Option, ◌==◌, ◌≢◌, nat_le, slice_index, slice_index_or}
 use Rattle.plan.specs.Plan.{pick, Route, End, Plan}
 use Rattle.plan.specs.declared.Need.{Need}
 use Rattle.plan.specs.declared.Size.{Size}
@@ -106,6 +106,10 @@ abbrev pub refusal_place : Refusal → ℕ
 refusal_place (Sizes s) = size_place s
 refusal_place (Length n) = n
 refusal_place (Number k) = k
+
+-- what is printed of a refusal
+abbrev pub refusal_text : Refusal → List ℕ
+refusal_text e = codes "refused " ++ (decimal (refusal_number e) ++ (codes " at " ++ decimal (refusal_place e)))
 
 -- the sizes in their ranges
 pub record Sized (xs : List ℕ) : Type 0 where

@@ -1,5 +1,5 @@
 -- A station's plan: sections, points, signals and routes. Assumes nothing: these are definitions.
-use Rattle.std.specs.Prelude.{◌≡◌, ℕ, ◌<◌, Bool, true, false, not, ◌&&◌, ◌||◌, List, [], ◌∷◌, ◌==◌, slice_index_or}
+use Rattle.std.specs.Prelude.{◌≡◌, ℕ, ◌<◌, Bool, true, false, not, ◌&&◌, ◌||◌, List, [], ◌∷◌, Option, None, Some, ◌==◌, slice_index_or}
 use Rattle.plan.specs.declared.Need.{Need}
 
 abbrev pub pick : {A : Type 0} → Bool → A → A → A
@@ -65,6 +65,11 @@ met t (n ∷ ns) = sameb (t n.point) n.left && met t ns
 unfoldable pub among : ℕ → List ℕ → Bool
 among x [] = false
 among x (y ∷ ys) = x == y || among x ys
+
+-- the first that stands again behind itself
+unfoldable pub repeated : List ℕ → Option ℕ
+repeated [] = None
+repeated (x ∷ xs) = pick (among x xs) (Some x) (repeated xs)
 
 -- is a point among those that are needed
 unfoldable pub needed : ℕ → List Need → Bool

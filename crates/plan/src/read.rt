@@ -1,35 +1,37 @@
 // Numbers read as a plan, and what the plan has at each place.
-ghost use Rattle.std.specs.Prelude.{◌≡◌, ℕ, ◌+◌, ◌*◌, ◌<◌, ◌≤◌, true, length, take, drop, None, slice_index, slice_index_or};
+ghost use Rattle.std.specs.Prelude.{◌≡◌, ℕ, ◌+◌, ◌*◌, ◌<◌, ◌≤◌, true, length, take, drop, slice_index};
+ghost use Rattle.std.specs.Result.{result_err};
 ghost use Rattle.plan.specs.Numbers.{bad_size, most, refused, routes_from, Stands, too_large};
-ghost use Rattle.plan.specs.Plan.{among, last_of, marks, met, needed, no_route, pick, route, sameb};
-ghost use Rattle.plan.specs.View.{end_of, no_need, plan_of, route_of};
+ghost use Rattle.plan.specs.Plan.{among, last_of, marks, met, needed, no_route, pick, repeated, route, sameb};
+ghost use Rattle.plan.specs.View.{end_of, needs_left, plan_of, route_of, Taken};
 
+use crate::needs::Needs;
 use crate::route::Route;
 use crate::view::Plan;
 use crate::{End, Need, Refusal, Size};
 
-// The numbers of a route that is none: it begins at 0, and has no path and no needs.
+// The numbers of a route that is none: it begins at 0, and has no path and no needs. `Plan::route` answers any number, as the plan's definition does, so it is no `Option`.
 static NO_ROUTE: [u16; 52] = [0; 52];
 
-// Why numbers are no plan, if they are none.
-pub fn refusal(numbers: &[u16]) -> Option<Refusal>
-    ensures { result ≡ refused numbers.now }
+// Are these numbers a plan?
+fn check(numbers: &[u16]) -> Result<(), Refusal>
+    ensures { result_err result ≡ refused numbers.now }
 {
-    if let Some(size) = bad_size(numbers) {
-        return Some(Refusal::Sizes(size));
+    if let Err(size) = check_sizes(numbers) {
+        return Err(Refusal::Sizes(size));
     }
     let first_route = 4 + 11 * usize::from(numbers[0]) + usize::from(numbers[1]);
     let routes = usize::from(numbers[3]);
     let whole = first_route + 52 * routes;
     if numbers.len() != whole {
-        return Some(Refusal::Length(whole));
+        return Err(Refusal::Length(whole));
     }
     if all_fit(numbers) && counts_fit(numbers, first_route, routes) {
-        return None;
+        return Ok(());
     }
     match too_large(numbers, first_route) {
-        Some(k) => Some(Refusal::Number(k)),
-        None => None,
+        Some(k) => Err(Refusal::Number(k)),
+        None => Ok(()),
     }
 }
 
@@ -49,29 +51,24 @@ fn counts_fit(numbers: &[u16], first_route: usize, routes: usize) -> bool
     requires { first_route + 52 * routes ≤ length numbers.now }
     ensures { result ≡ true → (i : ℕ) → i < routes → (slice_index numbers.now (first_route + 52 * i + 2) ≤ 16) × (slice_index numbers.now (first_route + 52 * i + 3) ≤ 16) }
 {
-    for i in 0..routes {
-        let k = first_route + 52 * i;
-        if (numbers[k + 2] > 16) | (numbers[k + 3] > 16) {
-            return false;
-        }
-    }
-    true
+    let (routes, _) = numbers[first_route..first_route + 52 * routes].as_chunks::<52>();
+    routes.iter().all(|route| route[2] <= 16 && route[3] <= 16)
 }
 
-// The first size that is out of its range.
-fn bad_size(numbers: &[u16]) -> Option<Size>
-    ensures { result ≡ bad_size numbers.now }
+// Are the sizes within their ranges? If not, the first that is not.
+fn check_sizes(numbers: &[u16]) -> Result<(), Size>
+    ensures { result_err result ≡ bad_size numbers.now }
 {
     if numbers.len() < 4 || numbers[0] < 1 || numbers[0] > 64 {
-        Some(Size::Sections)
+        Err(Size::Sections)
     } else if numbers[1] > 32 {
-        Some(Size::Points)
+        Err(Size::Points)
     } else if numbers[3] > 64 {
-        Some(Size::Routes)
+        Err(Size::Routes)
     } else if numbers[2] > 1000 {
-        Some(Size::Time)
+        Err(Size::Time)
     } else {
-        None
+        Ok(())
     }
 }
 
@@ -101,7 +98,7 @@ fn too_large(numbers: &[u16], first_route: usize) -> Option<usize>
     None
 }
 
-// Where the four numbers of a section's end stand.
+// Where the four numbers of a section's end stand. Not one function with that of the signal: it would take both places, and ask that they are small.
 fn end_place(up: bool, x: u16) -> usize
     ensures { result ≡ pick up (4 + 11 * x) (8 + 11 * x) }
 {
@@ -123,26 +120,27 @@ fn signal_place(up: bool, x: u16) -> usize
     }
 }
 
-impl<'a> Plan<'a> {
-    // The plan that numbers are.
-    pub fn new(numbers: &'a [u16]) -> Self
-        requires { refused numbers.now ≡ None }
-        ensures { result.numbers.now ≡ numbers.now }
-    {
-        Plan { numbers }
-    }
+// The plan that numbers are, or why they are none.
+impl<'a> TryFrom<&'a [u16]> for Plan<'a> {
+    type Error = Refusal;
 
+    ghost try_from_gives = { Taken };
+
+    fn try_from(numbers: &'a [u16]) -> Result<Self, Refusal> {
+        check(numbers)?;
+        Ok(Plan { numbers })
+    }
+}
+
+impl<'a> Plan<'a> {
     // The number at a place, or 0 past the end.
     fn number(self, k: usize) -> u16
         ensures { result ≡ slice_index self.entry.numbers.now k }
     {
-        if k < self.numbers.len() {
-            self.numbers[k]
-        } else {
-            0
-        }
+        self.numbers.get(k).copied().unwrap_or(0)
     }
 
+    // Each of the four numbers at the front has a name and a contract of its own.
     pub fn sections(self) -> u16
         ensures { result ≡ (plan_of self.entry).sections }
     {
@@ -258,78 +256,41 @@ impl<'a> Route<'a> {
         &self.numbers[4..4 + usize::from(self.numbers[2])]
     }
 
-    // How many needs it has.
-    pub fn needs(self) -> usize
-        ensures { result ≡ length (route_of self.entry).needs }
+    // What it needs, one point after the other.
+    pub fn needs(self) -> Needs<'a>
+        ensures { needs_left result ≡ (route_of self.entry).needs }
     {
-        usize::from(self.numbers[3])
-    }
-
-    // One of its needs; past the last, point 0 on the right.
-    pub fn need(self, i: usize) -> Need
-        ensures { result ≡ slice_index_or (route_of self.entry).needs i no_need }
-    {
-        if i < self.needs() {
-            self.need_at(i)
-        } else {
-            Need {
-                point: 0,
-                left: false,
-            }
-        }
-    }
-
-    fn need_at(self, i: usize) -> Need
-        requires { i < length (route_of self).needs }
-        ensures { result ≡ slice_index_or (route_of self.entry).needs i no_need }
-    {
-        Need {
-            point: self.numbers[20 + 2 * i],
-            left: self.numbers[21 + 2 * i] == 1,
-        }
+        let n = usize::from(self.numbers[3]);
+        let (pairs, _) = self.numbers[20..20 + 2 * n].as_chunks::<2>();
+        Needs { pairs }
     }
 
     // Does it need a point?
     pub fn needs_point(self, q: u16) -> bool
         ensures { result ≡ needed q (route_of self.entry).needs }
     {
-        let n = self.needs();
-        for i in 0..n {
-            if q == self.need(i).point {
-                return true;
-            }
-        }
-        false
+        self.needs().any(|need| q == need.point)
     }
 
     // Do the points lie as it needs them?
     pub fn met(self, positions: &[bool]) -> bool
         ensures { result ≡ met (marks positions.now) (route_of self.entry).needs }
     {
-        let n = self.needs();
-        for i in 0..n {
-            if !self.need(i).lies(positions) {
-                return false;
-            }
-        }
-        true
+        self.needs().all(|need| need.lies(positions))
     }
 
-    // The first section of its path, or 0.
+    // The first section of its path, or 0, as the definitions read past a list's end.
     pub fn first(self) -> u16
         ensures { result ≡ slice_index (route_of self.entry).path 0 }
     {
-        let path = self.path();
-        if path.len() > 0 { path[0] } else { 0 }
+        self.path().first().copied().unwrap_or(0)
     }
 
     // The last section of its path, or 0.
     pub fn last(self) -> u16
         ensures { result ≡ last_of 0 (route_of self.entry).path }
     {
-        let path = self.path();
-        let n = path.len();
-        if n > 0 { path[n - 1] } else { 0 }
+        self.path().last().copied().unwrap_or(0)
     }
 }
 
@@ -338,8 +299,7 @@ impl Need {
     pub fn lies(self, positions: &[bool]) -> bool
         ensures { result ≡ sameb (marks positions.now self.point) self.left }
     {
-        let left = mark_at(positions, usize::from(self.point));
-        if left { self.left } else { !self.left }
+        mark_at(positions, usize::from(self.point)) == self.left
     }
 }
 
@@ -347,17 +307,27 @@ impl Need {
 pub fn mark_at(bits: &[bool], i: usize) -> bool
     ensures { result ≡ marks bits.now i }
 {
-    if i < bits.len() { bits[i] } else { false }
+    bits.get(i).copied().unwrap_or(false)
 }
 
 // Is a section among these?
 pub fn found(path: &[u16], x: u16) -> bool
     ensures { result ≡ among x path.now }
 {
-    for y in path {
-        if x == *y {
-            return true;
+    path.contains(&x)
+}
+
+// The first section that stands again behind itself.
+pub fn repeated(path: &[u16]) -> Option<u16>
+    ensures { result ≡ repeated path.now }
+{
+    // No chain over a path hands a closure what stands behind each section.
+    let mut rest = path;
+    while let Some((x, behind)) = rest.split_first() {
+        if found(behind, *x) {
+            return Some(*x);
         }
+        rest = behind;
     }
-    false
+    None
 }

@@ -34,9 +34,6 @@ all_true (suc n) f h =
     let l : n < suc n = omega arith in
     let here = h n l in grind arith
 
-pub all_false : (n : ℕ) (f : ℕ → Bool) (k : ℕ) → k < n → f k ≡ false → all_below n f ≡ false
-all_false n f k l e = elim (decide (all_below n f)) [ inl t ↦ clash (f k) (all_at n f k t l) e | inr t ↦ t ]
-
 -- all different
 pub differ_once : (xs : List ℕ) → differ xs ≡ true → Once xs
 unfolding differ

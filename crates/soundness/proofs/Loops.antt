@@ -1,41 +1,23 @@
 -- Steps of the loops that test lists, and all numbers below one.
-use Rattle.std.proofs.Common.{◌≡◌, ℕ, suc, ◌+◌, ◌-◌, ◌<◌, ◌≤◌, Bool, true, false, not, ◌&&◌, ◌||◌, eqb, ltb, List, [], ◌∷◌, length, get_or, take, drop, sym, refl, ap, arith, le-ltb, lt-ltb, eq-eqb, ne_eqb}
-use Rattle.std.proofs.lemmas.List.{at_drop_more, at_drop_all, take_rest}
-use Rattle.plan.specs.Plan.{End, Plan, Route, among, last_of}
+use Rattle.std.proofs.Common.{◌≡◌, ℕ, zero, suc, ◌+◌, ◌<◌, ◌≤◌, Bool, true, false, not, is_some, ◌&&◌, ◌||◌, eqb, ltb, List, [], ◌∷◌, length, get_or, drop, sym, refl, ap, arith, le-ltb, lt-ltb, eq-eqb, ne_eqb}
+use Rattle.std.proofs.lemmas.List.{at_drop_more, at_drop_all}
+use Rattle.std.specs.List.{list_all, range_with_len}
+use Rattle.plan.proofs.Walks.{and_assoc}
+use Rattle.plan.specs.Plan.{End, Plan, Route, among, last_of, repeated}
 use Rattle.plan.specs.declared.Need.{Need}
 use Rattle.soundness.specs.Tests.{all_below, empty, differ, joins, hangs, leads_to, needed_so, route_test}
 use Rattle.soundness.specs.declared.RouteRule.TheVariants.{Ends}
-use Rattle.soundness.proofs.Each.{all_true, all_false}
+use Rattle.soundness.proofs.Each.{all_true}
 
--- all numbers below one, of which there are m
-pub below_stop : (n : ℕ) (f : ℕ → Bool) (k m : ℕ) → k < m → m ≡ n → f k ≡ false → false ≡ all_below n f
-below_stop n f k m l e h = sym (all_false n f k (omega arith) h)
+-- all different: none stands again
+differ_rest : (xs : List ℕ) → not (is_some (repeated xs)) ≡ differ xs
+unfolding differ repeated
+differ_rest [] = refl
+differ_rest (x ∷ xs) = let r = differ_rest xs in grind arith
 
-pub below_all : (n : ℕ) (f : ℕ → Bool) (k m : ℕ) → m ≤ k → m ≡ n → ((j : ℕ) → j < k → f j ≡ true) → true ≡ all_below n f
-below_all n f k m l e h = sym (all_true n f (λ j i. h j (omega arith)))
-
--- all different
-pub differ_more : (xs : List ℕ) (i : ℕ) (b t : Bool) → i < length xs → b ≡ among (get_or xs i 0) (take (length xs - (i + 1)) (drop (i + 1) xs)) → b ≡ false → differ (drop i xs) ≡ t → differ (drop (i + 1) xs) ≡ t
+pub differ_is : (x : ℕ) (xs : List ℕ) → not (among x xs) && not (is_some (repeated xs)) ≡ differ (x ∷ xs)
 unfolding differ
-differ_more xs i b t l e f h =
-    let u = at_drop_more differ xs i 0 l in let r = take_rest xs (i + 1) in cc
-
-pub differ_stop : (xs : List ℕ) (i : ℕ) (b t : Bool) → i < length xs → b ≡ among (get_or xs i 0) (take (length xs - (i + 1)) (drop (i + 1) xs)) → b ≡ true → differ (drop i xs) ≡ t → false ≡ t
-unfolding differ
-differ_stop xs i b t l e f h =
-    let u = at_drop_more differ xs i 0 l in let r = take_rest xs (i + 1) in cc
-
-pub differ_all : (xs : List ℕ) (i : ℕ) (t : Bool) → length xs ≤ i → differ (drop i xs) ≡ t → true ≡ t
-unfolding differ
-differ_all xs i t l h = let u = at_drop_all differ xs i l in cc
-
-pub differ_first : (x : ℕ) (xs : List ℕ) (b : Bool) → b ≡ among x xs → b ≡ true → false ≡ differ (x ∷ xs)
-unfolding differ
-differ_first x xs b e f = cc
-
-pub differ_rest : (x : ℕ) (xs : List ℕ) (b d : Bool) → b ≡ among x xs → b ≡ false → d ≡ differ xs → d ≡ differ (x ∷ xs)
-unfolding differ
-differ_rest x xs b d e f g = cc
+differ_is x xs = let r = differ_rest xs in cc
 
 -- a path that hangs together
 pub hangs_more : (p : Plan) (ns : List Need) (up : Bool) (a : ℕ) (xs : List ℕ) (i : ℕ) (b t : Bool) → i < length xs → b ≡ joins p ns up a (get_or xs i 0) → b ≡ true →
@@ -52,9 +34,6 @@ pub hangs_all : (p : Plan) (ns : List Need) (up : Bool) (a : ℕ) (xs : List ℕ
 unfolding hangs
 hangs_all p ns up a xs i t l h = let u = at_drop_all (hangs p ns up a) xs i l in cc
 
-pub no_place : (a b x y : ℕ) → x ≡ a → y ≡ b → y ≤ x → ltb a b ≡ false
-no_place a b x y e f l = le-ltb a b (omega arith)
-
 pub a_place : (a b x y : ℕ) → x ≡ a → y ≡ b → x < y → ltb a b ≡ true
 a_place a b x y e f l = lt-ltb a b (omega arith)
 
@@ -62,14 +41,6 @@ pub empty_is : (xs : List ℕ) → length xs ≡ 0 → empty xs ≡ true
 unfolding empty
 empty_is [] h = refl
 empty_is (x ∷ xs) h = absurd (omega arith)
-
-pub empty_not : (xs : List ℕ) → (length xs ≡ 0 → ⊥) → empty xs ≡ false
-unfolding empty
-empty_not [] h = absurd (h refl)
-empty_not (x ∷ xs) h = refl
-
-pub edge_free : (p : Plan) (q x : ℕ) (b v : Bool) → x ≡ p.place q → b ≡ p.edge x → b ≡ v → not (p.edge (p.place q)) ≡ not v
-edge_free p q x b v e f g = cc
 
 pub goes_is : (xs ys : List ℕ) (b : Bool) → b ≡ eqb (length ys) 0 → ys ≡ xs → not b ≡ not (empty xs)
 unfolding empty
@@ -89,3 +60,17 @@ leads_moved ns e x a b m f g = cc
 pub leads_plain : (ns : List Need) (e : End) (x : ℕ) → e.moves ≡ false → eqb e.on_left x ≡ leads_to ns e x
 unfolding leads_to
 leads_plain ns e x m = cc
+
+and_true : (b : Bool) → b && true ≡ b
+and_true true = refl
+and_true false = refl
+
+-- the library's test of a row of numbers is that of all below one
+row_more : (f : ℕ → Bool) (a n : ℕ) → list_all f (range_with_len a (suc n)) ≡ list_all f (range_with_len a n) && f (a + n)
+row_more f a zero = let z : a + 0 ≡ a = omega arith in let l = and_true (f a) in cc
+row_more f a (suc n) = let r = row_more f (a + 1) n in let z : a + 1 + n ≡ a + suc n = omega arith in let s = and_assoc (f a) (list_all f (range_with_len (a + 1) n)) (f (a + suc n)) in cc
+
+pub below_is : (f : ℕ → Bool) (n : ℕ) → list_all f (range_with_len 0 n) ≡ all_below n f
+unfolding all_below
+below_is f zero = refl
+below_is f (suc n) = let r = below_is f n in let m = row_more f 0 n in let z : 0 + n ≡ n = omega arith in cc

@@ -1,6 +1,8 @@
 -- The twelve rules of a plan, and which of them is broken first. Assumes nothing: these are definitions.
-use Rattle.std.specs.Prelude.{◌≡◌, ℕ, suc, ◌<◌, ◌≤◌, Bool, true, false, ◌⊎◌, [], ◌∷◌, length, slice_index}
+use Rattle.std.specs.Prelude.{◌≡◌, ℕ, suc, ◌<◌, ◌≤◌, Bool, true, false, ◌⊎◌, List, [], ◌∷◌, ◌++◌, codes, decimal, length, None, Some, Ok, Err, Result, MatchResult, slice_index}
 use Rattle.plan.specs.Plan.{Route, Plan, Positions, beyond, route, met, among, needed, Leads, last_of, Once}
+use Rattle.plan.specs.Numbers.{plan_in, refused}
+use Rattle.plan.specs.declared.Refusal.{Refusal}
 use Rattle.soundness.specs.declared.RouteRule.{RouteRule}
 use Rattle.soundness.specs.declared.RouteRule.TheVariants.{Begins, Goes, Differs, Agrees, Knows, Hangs, Passes, Ends, Holds}
 use Rattle.soundness.specs.declared.WholeRule.{WholeRule}
@@ -77,3 +79,23 @@ abbrev pub FirstBroken : Plan → Verdict → Type 0
 FirstBroken p IsSound = Keeps p
 FirstBroken p (InRoute r k) = FirstRoute p r k
 FirstBroken p (InWhole k) = FirstWhole p k
+
+-- the verdict of the plan that the numbers are, or why they are none
+abbrev pub Judges : List ℕ → Result Verdict Refusal → Type 0
+Judges xs r = MatchResult r (λ v. (refused xs ≡ None) × FirstBroken (plan_in xs) v) (λ e. refused xs ≡ Some e)
+
+abbrev pub is_sound : Verdict → Bool
+is_sound IsSound = true
+is_sound (InRoute r k) = false
+is_sound (InWhole k) = false
+
+-- does the judge say that the numbers are a sound plan
+abbrev pub says_sound : Result Verdict Refusal → Bool
+says_sound (Ok v) = is_sound v
+says_sound (Err e) = false
+
+-- what is printed of a verdict
+abbrev pub verdict_text : Verdict → List ℕ
+verdict_text IsSound = codes "sound"
+verdict_text (InRoute r k) = codes "route " ++ (decimal r ++ (codes " breaks " ++ decimal (route_number k)))
+verdict_text (InWhole k) = codes "breaks " ++ decimal (whole_number k)

@@ -1,13 +1,11 @@
 // The rules in their order, and the verdict.
-ghost use Rattle.std.specs.Prelude.{◌≡◌, Some, None, MatchResult};
-ghost use Rattle.plan.specs.Numbers.{plan_in, refused};
+ghost use Rattle.std.specs.Prelude.{◌≡◌};
 ghost use Rattle.plan.specs.View.{plan_of, route_of};
-ghost use Rattle.soundness.specs.Rules.{FirstBroken};
+ghost use Rattle.soundness.specs.Rules.{FirstBroken, Judges};
 ghost use Rattle.soundness.specs.Tests.{route_fails, whole_fails};
 
 use crate::{RouteRule, Verdict, WholeRule, rules};
 use plan::Refusal;
-use plan::read::refusal;
 use plan::route::Route;
 use plan::view::Plan;
 
@@ -68,10 +66,7 @@ pub fn verdict(plan: Plan<'_>) -> Verdict
 
 // The verdict on the plan that numbers are, or why they are none.
 pub fn judge(numbers: &[u16]) -> Result<Verdict, Refusal>
-    ensures { MatchResult result (λ v. (refused numbers.now ≡ None) × FirstBroken (plan_in numbers.now) v) (λ e. refused numbers.now ≡ Some e) }
+    ensures { Judges numbers.now result }
 {
-    match refusal(numbers) {
-        Some(refusal) => Err(refusal),
-        None => Ok(verdict(Plan::new(numbers))),
-    }
+    Ok(verdict(Plan::try_from(numbers)?))
 }

@@ -1,34 +1,24 @@
-// A test for each rule.
+// A test for each rule. The plan and the route are two parameters: most rules use one of them, and a struct of both would be made only to be taken apart.
 ghost use Rattle.std.specs.Prelude.{◌≡◌, ◌-◌, ◌<◌, true, false, not, ◌&&◌, ◌||◌, ◌∷◌, length, take, ◌==◌, nat_lt};
-ghost use Rattle.plan.specs.Plan.{among, needed, sameb};
+ghost use Rattle.plan.specs.Plan.{among, needed};
 ghost use Rattle.plan.specs.View.{end_of, plan_of, route_of};
 ghost use Rattle.soundness.specs.Tests.{agree, all_below, closed, differ, empty, hangs, holds, joins, known, leads_to, needed_so, own, quiet, route_test, shut, whole_test};
 ghost use Rattle.soundness.specs.declared.RouteRule.TheVariants.{Begins, Ends, Holds, Passes};
 ghost use Rattle.soundness.specs.declared.WholeRule.TheVariants.{Places, Clears, Closes};
 
 use conditions::{has_begin, has_end, is_closed, is_held, is_outside, is_own, leads_on};
-use plan::read::found;
+use plan::End;
+use plan::read::{found, repeated};
 use plan::route::Route;
 use plan::view::Plan;
-use plan::{End, Need};
-
-fn is_so(need: Need, q: u16, left: bool) -> bool
-    ensures { result ≡ (q == need.point && sameb left need.left) }
-{
-    q == need.point && if left { need.left } else { !need.left }
-}
 
 // Does it need a point on this side?
 pub fn needs_so(route: Route<'_>, q: u16, left: bool) -> bool
     ensures { result ≡ needed_so q left (route_of route.entry).needs }
 {
-    let n = route.needs();
-    for i in 0..n {
-        if is_so(route.need(i), q, left) {
-            return true;
-        }
-    }
-    false
+    route
+        .needs()
+        .any(|need| q == need.point && left == need.left)
 }
 
 // Rule 1.
@@ -53,15 +43,7 @@ pub fn goes(route: Route<'_>) -> bool
 fn differ(begin: u16, path: &[u16]) -> bool
     ensures { result ≡ differ (begin ∷ path.now) }
 {
-    if found(path, begin) {
-        return false;
-    }
-    for i in 0..path.len() {
-        if found(&path[i + 1..], path[i]) {
-            return false;
-        }
-    }
-    true
+    !found(path, begin) && repeated(path).is_none()
 }
 
 // Rule 3.
@@ -75,27 +57,16 @@ pub fn differs(route: Route<'_>) -> bool
 pub fn agree(route: Route<'_>) -> bool
     ensures { result ≡ agree (route_of route.entry).needs (route_of route.entry).needs }
 {
-    let n = route.needs();
-    for i in 0..n {
-        let need = route.need(i);
-        if needs_so(route, need.point, !need.left) {
-            return false;
-        }
-    }
-    true
+    route
+        .needs()
+        .all(|need| !needs_so(route, need.point, !need.left))
 }
 
 // Rule 5.
 pub fn known(route: Route<'_>, points: u16) -> bool
     ensures { result ≡ known points (route_of route.entry).needs }
 {
-    let n = route.needs();
-    for i in 0..n {
-        if route.need(i).point >= points {
-            return false;
-        }
-    }
-    true
+    route.needs().all(|need| need.point < points)
 }
 
 // Does an end lead to a section, however the points lie that the route does not need?
@@ -138,12 +109,7 @@ pub fn hangs(plan: Plan<'_>, route: Route<'_>) -> bool
 fn quiet(plan: Plan<'_>, up: bool, path: &[u16]) -> bool
     ensures { result ≡ quiet (plan_of plan.entry) up path.now }
 {
-    for x in path {
-        if plan.signal(up, *x) {
-            return false;
-        }
-    }
-    true
+    path.iter().all(|x| !plan.signal(up, *x))
 }
 
 // All of a path but its last section.
@@ -178,13 +144,7 @@ fn holds_point(plan: Plan<'_>, route: Route<'_>, q: u16) -> bool
 pub fn holds(plan: Plan<'_>, route: Route<'_>) -> bool
     ensures { result ≡ route_test (plan_of plan.entry) (route_of route.entry) Holds }
 {
-    let n = plan.points();
-    for q in 0..n {
-        if !holds_point(plan, route, q) {
-            return false;
-        }
-    }
-    true
+    (0..plan.points()).all(|q| holds_point(plan, route, q))
 }
 
 fn own(plan: Plan<'_>, up: bool, x: u16) -> bool
@@ -203,25 +163,13 @@ fn own(plan: Plan<'_>, up: bool, x: u16) -> bool
 fn all_own(plan: Plan<'_>) -> bool
     ensures { result ≡ all_below (plan_of plan.entry).sections (λ x. own (plan_of plan.entry) true x && own (plan_of plan.entry) false x) }
 {
-    let n = plan.sections();
-    for x in 0..n {
-        if !(own(plan, true, x) & own(plan, false, x)) {
-            return false;
-        }
-    }
-    true
+    (0..plan.sections()).all(|x| own(plan, true, x) & own(plan, false, x))
 }
 
 fn all_placed(plan: Plan<'_>) -> bool
     ensures { result ≡ all_below (plan_of plan.entry).points (λ q. nat_lt ((plan_of plan.entry).place q) (plan_of plan.entry).sections) }
 {
-    let n = plan.points();
-    for q in 0..n {
-        if plan.place(q) >= plan.sections() {
-            return false;
-        }
-    }
-    true
+    (0..plan.points()).all(|q| plan.place(q) < plan.sections())
 }
 
 // Rule 10.
@@ -235,13 +183,7 @@ pub fn places(plan: Plan<'_>) -> bool
 pub fn clears(plan: Plan<'_>) -> bool
     ensures { result ≡ whole_test (plan_of plan.entry) Clears }
 {
-    let n = plan.points();
-    for q in 0..n {
-        if plan.edge(plan.place(q)) {
-            return false;
-        }
-    }
-    true
+    (0..plan.points()).all(|q| !plan.edge(plan.place(q)))
 }
 
 // Does outside lie beyond an end, however points lie?
@@ -271,11 +213,5 @@ fn closes_at(plan: Plan<'_>, x: u16) -> bool
 pub fn closes(plan: Plan<'_>) -> bool
     ensures { result ≡ whole_test (plan_of plan.entry) Closes }
 {
-    let n = plan.sections();
-    for x in 0..n {
-        if !closes_at(plan, x) {
-            return false;
-        }
-    }
-    true
+    (0..plan.sections()).all(|x| closes_at(plan, x))
 }

@@ -1,5 +1,6 @@
+use Rattle.std.proofs.Common.{sym}
 use Rattle.explain.proofs.Turned.{says_some}
 use Rattle.explain.proofs.numbers.refused.Goals as goal
 
 pub fault-requires : goal.fault-requires
-fault-requires c = says_some c.args.numbers.now _ c.in-Some.ensures
+fault-requires c = says_some _ _ (sym c.in-Err.ensures)

@@ -1,19 +1,21 @@
-use Rattle.std.proofs.Common.{not, sym, refl, ap, ◌∙◌}
-use Rattle.plan.specs.View.{plan_of, route_of, no_need}
-use Rattle.plan.proofs.Walks.{each_more, each_all}
-use Rattle.soundness.specs.Tests.{agree, needed_so, route_test}
-use Rattle.explain.proofs.Walk.{both_is}
+use Rattle.std.proofs.Common.{◌≡◌, true, false, rules, tests}
+use Rattle.std.proofs.lemmas.Iterator.{first_from_find}
+use Rattle.std.proofs.lemmas.Iterator.Consumers.{YieldsList-from_first}
+use Rattle.plan.specs.View.{needs_left, plan_of, route_of}
+use Rattle.plan.proofs.Walks.{found_need}
+use Rattle.explain.proofs.Walk.{agrees_none, agrees_some, contrary}
 use Rattle.explain.proofs.route.agrees.Goals as goal
 
-pub returns-then-needs_so : goal.returns-then-needs_so
-returns-then-needs_so c = both_is (plan_of c.args.plan) (route_of c.args.route) c.need-need.result c.loop-i.i _ _ c.loop-i-test.true c.needs-n.ensures c.need-need.ensures c.needs_so.ensures c.if-needs_so.true
-
-pub loop-i-preserved : goal.loop-i-preserved
-unfolding agree
-loop-i-preserved c =
-    each_more (agree (route_of c.args.route).needs) (λ n. not (needed_so n.point (not n.left) (route_of c.args.route).needs)) (λ n ns. refl) (route_of c.args.route).needs c.loop-i.i _ no_need c.need-need.result _
-    c.loop-i-test.true c.needs-n.ensures c.loop-i.invariant c.need-need.ensures (ap not (sym c.needs_so.ensures ∙ c.if-needs_so.false))
+pub returns-in_err-need : goal.returns-in_err-need
+returns-in_err-need c =
+    agrees_none (plan_of c.args.plan) (route_of c.args.route) _ c.find.result _ (found_need (route_of c.args.route).needs c.find.result (λ n. contrary (route_of c.args.route) n ≡ false) (λ n. contrary (route_of c.args.route) n ≡ true)
+    (first_from_find c.find.new.self _ c.find.result (λ n. contrary (route_of c.args.route) n ≡ true) (λ n. contrary (route_of c.args.route) n ≡ false) c.find.ensures.ran
+    (YieldsList-from_first (λ n. n) needs_left (route_of c.args.route).needs c.needs.ensures) (λ x q k. search (rules, tests)) (λ x q k. search (rules, tests))))
+    c.in_err-need.was c.from_residual.ensures
 
 pub returns : goal.returns
-unfolding agree route_test
-returns c = sym (each_all (agree (route_of c.args.route).needs) refl (route_of c.args.route).needs c.loop-i.i _ _ c.loop-i-test.false c.needs-n.ensures c.loop-i.invariant)
+returns c =
+    agrees_some (plan_of c.args.plan) (route_of c.args.route) _ c.find.result _ (found_need (route_of c.args.route).needs c.find.result (λ n. contrary (route_of c.args.route) n ≡ false) (λ n. contrary (route_of c.args.route) n ≡ true)
+    (first_from_find c.find.new.self _ c.find.result (λ n. contrary (route_of c.args.route) n ≡ true) (λ n. contrary (route_of c.args.route) n ≡ false) c.find.ensures.ran
+    (YieldsList-from_first (λ n. n) needs_left (route_of c.args.route).needs c.needs.ensures) (λ x q k. search (rules, tests)) (λ x q k. search (rules, tests))))
+    c.in_ok-need.was

@@ -1,13 +1,16 @@
-use Rattle.std.proofs.Common.{sym, below_more}
+use Rattle.std.proofs.Common.{◌≡◌, true, false, rules, tests}
+use Rattle.std.proofs.lemmas.Iterator.{first_from_Range}
 use Rattle.plan.specs.View.{plan_of, route_of}
-use Rattle.soundness.specs.Tests.{route_test, holds}
-use Rattle.soundness.proofs.Loops.{below_all}
-use Rattle.explain.proofs.Walk.{holds_at}
+use Rattle.soundness.specs.Tests.{holds, route_test}
+use Rattle.soundness.specs.declared.RouteRule.TheVariants.{Holds}
+use Rattle.explain.specs.Faults.{Blames}
+use Rattle.explain.proofs.Walk.{below_none}
 use Rattle.explain.proofs.route.holds.Goals as goal
 
-pub loop-q-preserved : goal.loop-q-preserved
-loop-q-preserved c = below_more _ _ c.loop-q.invariant (holds_at (plan_of c.args.plan) (route_of c.args.route) _ _ _ _ _ c.place-x.ensures c.path-path.ensures c.found.ensures c.needs_point.ensures c.if-found-needs_point.false)
-
-pub returns : goal.returns
-unfolding route_test
-returns c = sym (below_all _ (λ k. holds (plan_of c.args.plan) (route_of c.args.route) k) c.loop-q.q _ c.loop-q-test.false c.points-n.ensures c.loop-q.invariant)
+pub returns-in_err-q : goal.returns-in_err-q
+unfolding route_test holds
+returns-in_err-q c =
+    let p = plan_of c.args.plan in
+    below_none c.points.result p.points (holds p (route_of c.args.route)) (Blames p (route_of c.args.route) Holds) _ c.find.result c.from_residual.result c.points.ensures
+    (first_from_Range _ c.find.new.self _ c.find.result (λ q. (holds p (route_of c.args.route) q) ≡ false) (λ q. (holds p (route_of c.args.route) q) ≡ true) c.find.ensures.ran (λ x q k. search (rules, tests)) (λ x q k. search (rules, tests)))
+    c.in_err-q.was c.from_residual.ensures

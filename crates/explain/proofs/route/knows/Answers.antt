@@ -1,20 +1,23 @@
-use Rattle.std.proofs.Common.{ltb, sym, refl}
-use Rattle.plan.specs.View.{plan_of, route_of, no_need}
-use Rattle.plan.proofs.Walks.{each_more, each_all}
-use Rattle.soundness.specs.Tests.{known, route_test}
-use Rattle.soundness.proofs.Loops.{a_place}
-use Rattle.explain.proofs.Walk.{unknown_is}
+use Rattle.std.proofs.Common.{◌<◌, ◌≤◌, rules, tests}
+use Rattle.std.proofs.lemmas.Iterator.{first_from_find}
+use Rattle.std.proofs.lemmas.Iterator.Consumers.{YieldsList-from_first}
+use Rattle.plan.specs.View.{needs_left, plan_of, route_of}
+use Rattle.plan.proofs.Walks.{found_need}
+use Rattle.explain.proofs.Walk.{knows_none, knows_some}
 use Rattle.explain.proofs.route.knows.Goals as goal
 
-pub returns-then-points-q : goal.returns-then-points-q
-returns-then-points-q c = unknown_is (plan_of c.args.plan) (route_of c.args.route) c.need-q.result c.loop-i.i _ _ c.loop-i-test.true c.needs-n.ensures c.need-q.ensures c.points-points.ensures c.if-points-q.true
-
-pub loop-i-preserved : goal.loop-i-preserved
-unfolding known
-loop-i-preserved c =
-    each_more (known (plan_of c.args.plan).points) (λ n. ltb n.point (plan_of c.args.plan).points) (λ n ns. refl) (route_of c.args.route).needs c.loop-i.i _ no_need c.need-q.result _
-    c.loop-i-test.true c.needs-n.ensures c.loop-i.invariant c.need-q.ensures (a_place _ _ _ _ refl c.points-points.ensures c.if-points-q.false)
+pub returns-in_err-need : goal.returns-in_err-need
+returns-in_err-need c =
+    knows_none (plan_of c.args.plan) (route_of c.args.route) c.points-points.result _ c.find.result _ c.points-points.ensures
+    (found_need (route_of c.args.route).needs c.find.result (λ n. n.point < c.points-points.result) (λ n. c.points-points.result ≤ n.point)
+    (first_from_find c.find.new.self _ c.find.result (λ n. c.points-points.result ≤ n.point) (λ n. n.point < c.points-points.result) c.find.ensures.ran
+    (YieldsList-from_first (λ n. n) needs_left (route_of c.args.route).needs c.needs.ensures) (λ x q k. search (rules, tests)) (λ x q k. search (rules, tests))))
+    c.in_err-need.was c.from_residual.ensures
 
 pub returns : goal.returns
-unfolding known route_test
-returns c = sym (each_all (known (plan_of c.args.plan).points) refl (route_of c.args.route).needs c.loop-i.i _ _ c.loop-i-test.false c.needs-n.ensures c.loop-i.invariant)
+returns c =
+    knows_some (plan_of c.args.plan) (route_of c.args.route) c.points-points.result _ c.find.result _ c.points-points.ensures
+    (found_need (route_of c.args.route).needs c.find.result (λ n. n.point < c.points-points.result) (λ n. c.points-points.result ≤ n.point)
+    (first_from_find c.find.new.self _ c.find.result (λ n. c.points-points.result ≤ n.point) (λ n. n.point < c.points-points.result) c.find.ensures.ran
+    (YieldsList-from_first (λ n. n) needs_left (route_of c.args.route).needs c.needs.ensures) (λ x q k. search (rules, tests)) (λ x q k. search (rules, tests))))
+    c.in_ok-need.was

@@ -1,17 +1,20 @@
-use Rattle.std.proofs.Common.{not, sym, refl, ap, ◌∙◌}
+use Rattle.std.proofs.Common.{◌≡◌, ◌-◌, true, false, take, rules, tests}
+use Rattle.std.proofs.lemmas.Iterator.{first_from_find, YieldsList-from_slice}
+use Rattle.std.proofs.lemmas.Iterator.Consumers.{YieldsList-from_copied}
 use Rattle.plan.specs.View.{plan_of, route_of}
-use Rattle.plan.proofs.Walks.{ands_more, ands_all}
-use Rattle.soundness.specs.Tests.{quiet}
-use Rattle.explain.proofs.Walk.{signal_is, passes_none}
+use Rattle.explain.proofs.Walk.{passes_none, passes_some}
 use Rattle.explain.proofs.route.passes.Goals as goal
 
-pub returns-then-signal : goal.returns-then-signal
-returns-then-signal c = signal_is (plan_of c.args.plan) (route_of c.args.route) _ _ _ _ _ c.path-path.ensures c.saturating_sub.ensures c.loop-x-test.true c.up-up.ensures c.signal.ensures c.if-signal.true
-
-pub loop-x-preserved : goal.loop-x-preserved
-unfolding quiet
-loop-x-preserved c = ands_more (quiet (plan_of c.args.plan) c.up-up.result) (λ x. not ((plan_of c.args.plan).signal c.up-up.result x)) (λ x xs. refl) _ _ 0 _ _ c.loop-x-test.true c.loop-x.invariant refl (ap not (sym c.signal.ensures ∙ c.if-signal.false))
+pub returns-in_err-x : goal.returns-in_err-x
+returns-in_err-x c =
+    passes_none (plan_of c.args.plan) (route_of c.args.route) c.path-path.result.now c.saturating_sub.result c.up-up.result c.find.result _ c.path-path.ensures c.saturating_sub.ensures c.up-up.ensures
+    (first_from_find _ _ c.find.result (λ x. (plan_of c.args.plan).signal c.up-up.result x ≡ true) (λ x. (plan_of c.args.plan).signal c.up-up.result x ≡ false) c.find.ensures.ran
+    (YieldsList-from_copied (YieldsList-from_slice (take (c.saturating_sub.result - 0) c.path-path.result.now) (search rules))) (λ x q k. search (rules, tests)) (λ x q k. search (rules, tests)))
+    c.in_err-x.was c.from_residual.ensures
 
 pub returns : goal.returns
-unfolding quiet
-returns c = passes_none (plan_of c.args.plan) (route_of c.args.route) _ _ _ c.path-path.ensures c.saturating_sub.ensures c.up-up.ensures (ands_all (quiet (plan_of c.args.plan) c.up-up.result) refl _ _ _ c.loop-x-test.false c.loop-x.invariant)
+returns c =
+    passes_some (plan_of c.args.plan) (route_of c.args.route) c.path-path.result.now c.saturating_sub.result c.up-up.result c.find.result _ c.path-path.ensures c.saturating_sub.ensures c.up-up.ensures
+    (first_from_find _ _ c.find.result (λ x. (plan_of c.args.plan).signal c.up-up.result x ≡ true) (λ x. (plan_of c.args.plan).signal c.up-up.result x ≡ false) c.find.ensures.ran
+    (YieldsList-from_copied (YieldsList-from_slice (take (c.saturating_sub.result - 0) c.path-path.result.now) (search rules))) (λ x q k. search (rules, tests)) (λ x q k. search (rules, tests)))
+    c.in_ok-x.was

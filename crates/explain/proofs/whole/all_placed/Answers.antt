@@ -1,9 +1,14 @@
-use Rattle.std.proofs.Common.{ltb, sym}
+use Rattle.std.proofs.Common.{◌≡◌, true, false, ltb, rules, tests}
+use Rattle.std.proofs.lemmas.Iterator.{first_from_Range}
 use Rattle.plan.specs.View.{plan_of}
-use Rattle.soundness.specs.Tests.{whole_test}
-use Rattle.soundness.proofs.Loops.{below_all}
+use Rattle.soundness.specs.declared.WholeRule.TheVariants.{Places}
+use Rattle.explain.specs.Faults.{BlamesWhole}
+use Rattle.explain.proofs.Walk.{below_none}
 use Rattle.explain.proofs.whole.all_placed.Goals as goal
 
-pub returns : goal.returns
-unfolding whole_test
-returns c = sym (below_all _ (λ k. ltb ((plan_of c.args.plan).place k) (plan_of c.args.plan).sections) c.loop-q.q _ c.loop-q-test.false c.points-n.ensures c.loop-q.invariant)
+pub returns-in_err-q : goal.returns-in_err-q
+returns-in_err-q c =
+    let p = plan_of c.args.plan in
+    below_none c.points.result p.points (λ q. ltb (p.place q) p.sections) (BlamesWhole p Places) _ c.find.result c.from_residual.result c.points.ensures
+    (first_from_Range _ c.find.new.self _ c.find.result (λ q. (ltb (p.place q) p.sections) ≡ false) (λ q. (ltb (p.place q) p.sections) ≡ true) c.find.ensures.ran (λ x q k. search (rules, tests)) (λ x q k. search (rules, tests)))
+    c.in_err-q.was c.from_residual.ensures

@@ -1,21 +1,13 @@
-use Rattle.std.proofs.Common.{not, sym, refl, ap, ◌∙◌}
-use Rattle.plan.specs.View.{route_of, no_need}
+use Rattle.std.proofs.Common.{not, ◌∙◌, refl, rules, tests}
+use Rattle.std.proofs.lemmas.Iterator.Consumers.{YieldsList-from_first}
+use Rattle.std.proofs.lemmas.Iterator.Search.{all_from_yields_List}
+use Rattle.plan.specs.View.{needs_left, route_of}
+use Rattle.plan.proofs.Walks.{all_is}
 use Rattle.soundness.specs.Tests.{agree, needed_so}
-use Rattle.plan.proofs.Walks.{each_stop, each_more, each_all}
 use Rattle.soundness.proofs.rules.agree.Goals as goal
-
-pub returns-then-needs_so : goal.returns-then-needs_so
-unfolding agree
-returns-then-needs_so c =
-    each_stop (agree (route_of c.args.route).needs) (λ n. not (needed_so n.point (not n.left) (route_of c.args.route).needs)) (λ n ns. refl) (route_of c.args.route).needs c.loop-i.i _ no_need c.need-need.result _
-    c.loop-i-test.true c.needs-n.ensures c.loop-i.invariant c.need-need.ensures (ap not (sym c.needs_so.ensures ∙ c.if-needs_so.true))
-
-pub loop-i-preserved : goal.loop-i-preserved
-unfolding agree
-loop-i-preserved c =
-    each_more (agree (route_of c.args.route).needs) (λ n. not (needed_so n.point (not n.left) (route_of c.args.route).needs)) (λ n ns. refl) (route_of c.args.route).needs c.loop-i.i _ no_need c.need-need.result _
-    c.loop-i-test.true c.needs-n.ensures c.loop-i.invariant c.need-need.ensures (ap not (sym c.needs_so.ensures ∙ c.if-needs_so.false))
 
 pub returns : goal.returns
 unfolding agree
-returns c = each_all (agree (route_of c.args.route).needs) refl (route_of c.args.route).needs c.loop-i.i _ _ c.loop-i-test.false c.needs-n.ensures c.loop-i.invariant
+returns c =
+    all_from_yields_List (λ n. not (needed_so n.point (not n.left) (route_of c.args.route).needs)) c.all.new.self _ _ c.all.ensures.ran (YieldsList-from_first (λ n. n) needs_left (route_of c.args.route).needs c.needs.ensures) (λ x b q k. search (rules, tests))
+    ∙ all_is (agree (route_of c.args.route).needs) (λ n. not (needed_so n.point (not n.left) (route_of c.args.route).needs)) refl (λ n ns. refl) _

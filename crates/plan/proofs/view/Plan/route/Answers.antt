@@ -3,9 +3,6 @@ use Rattle.plan.specs.Numbers.{plan_in}
 use Rattle.plan.proofs.Formed.{route_past}
 use Rattle.plan.proofs.view.Plan.route.Goals as goal
 
-pub route_at-requires : goal.route_at-requires
-route_at-requires c = let e = c.routes.ensures in let f = c.from.ensures in let l = c.if-r-from.true in omega arith
-
 pub returns : goal.returns
 returns c =
     let e = c.routes.ensures in
