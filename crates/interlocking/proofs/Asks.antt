@@ -1,10 +1,11 @@
 -- Locks, wants and what holds a point, over lists.
-use Rattle.std.proofs.Common.{◌≡◌, ℕ, zero, suc, ◌+◌, ◌-◌, ◌<◌, ◌≤◌, Bool, true, false, not, ◌&&◌, ◌||◌, eqb, ◌≢◌, List, [], ◌∷◌, length, get_or, drop, set, is_some, sym, refl, ap, ◌∙◌, add-one, arith, eqb-true}
+use Rattle.std.proofs.Common.{◌≡◌, ℕ, zero, suc, ◌+◌, ◌-◌, ◌<◌, ◌≤◌, Bool, true, false, not, ◌&&◌, ◌||◌, eqb, ◌≢◌, List, [], ◌∷◌, ◌++◌, length, get_or, set, is_some, sym, refl, ap, ◌∙◌, add-one, arith, eqb-true}
 use borrow.Author.Tests.{eqb-false}
-use Rattle.std.proofs.lemmas.List.{get_or-set_same, get_or-set_other, length-set, drop_more, drop_all}
+use Rattle.std.proofs.lemmas.List.{get_or-set_same, get_or-set_other, length-set, append_assoc, append-nil}
+use Rattle.std.specs.List.{list_any}
+use Rattle.std.specs.List.{range_with_len}
 use Rattle.plan.specs.declared.Need.{Need}
 use Rattle.plan.specs.Plan.{pick, Plan, Route, route, needed, among, last_of, marks}
-use Rattle.plan.specs.View.{no_need}
 use Rattle.plan.specs.Numbers.{plan_in, refused, routes_from}
 use Rattle.plan.proofs.Formed.{formed}
 use Rattle.plan.proofs.Parts.{length_routes}
@@ -18,35 +19,21 @@ use Rattle.interlocking.proofs.Sweeps.{written}
 use Rattle.interlocking.proofs.States.{same_state}
 use Rattle.interlocking.proofs.Fits.{Alike, alike_fits}
 
-pub held_none : (p : Plan) (h : State) (q : ℕ) → held p h q 0 ≡ false
-unfolding held
-held_none p h q = refl
-
-pub held_more : (p : Plan) (h : State) (q r : ℕ) (b : Bool) → held p h q r ≡ false → b ≡ (not (is_idle (h.stage r)) && needed q (route p r).needs) → b ≡ false →
-    held p h q (r + 1) ≡ false
-unfolding held
-held_more p h q r b e f g = let a = add-one r in cc
-
-or_right : (a b : Bool) → true ≡ b → true ≡ (a || b)
-or_right true b e = refl
-or_right false b e = e
-
-held_at : (p : Plan) (h : State) (q r n : ℕ) (b : Bool) → r < n → b ≡ (not (is_idle (h.stage r)) && needed q (route p r).needs) → b ≡ true →
-    true ≡ held p h q n
-unfolding held
-held_at p h q r zero b l f g = absurd (omega arith)
-held_at p h q r (suc n) b l f g = go (eqb r n) refl (λ m. held_at p h q r n b m f g)
+or_more : (f : ℕ → Bool) (a n : ℕ) → list_any f (range_with_len a (suc n)) ≡ f (a + n) || list_any f (range_with_len a n)
+or_more f a zero = let z : a + 0 ≡ a = omega arith in cc
+or_more f a (suc n) = let r = or_more f (a + 1) n in let z : a + 1 + n ≡ a + suc n = omega arith in or_through (f a) (f (a + suc n)) _ _ (cc)
   where
-    go : (d : Bool) → eqb r n ≡ d → (r < n → true ≡ held p h q n) → true ≡ held p h q (suc n)
-    go true e ih = let z = eqb-true r n e in cc
-    go false e ih =
-        let z : r ≢ n = eqb-false r n e in
-        let m : r < n = omega arith in
-        let i = ih m in or_right (not (is_idle (h.stage n)) && needed q (route p n).needs) (held p h q n) i
+    or_through : (b c d e : Bool) → d ≡ c || e → b || d ≡ c || (b || e)
+    or_through true true d e q = refl
+    or_through true false d e q = refl
+    or_through false c d e q = q
 
-pub held_hit : (p : Plan) (h : State) (q r n m : ℕ) (b : Bool) → r < n → n ≡ m → b ≡ (not (is_idle (h.stage r)) && needed q (route p r).needs) → b ≡ true →
-    true ≡ held p h q m
-held_hit p h q r n m b l e f g = held_at p h q r m b (omega arith) f g
+-- what the routes below a number hold, gone through from the first on
+pub held_is : (p : Plan) (h : State) (q n : ℕ) → list_any (λ r. not (is_idle (h.stage r)) && needed q (route p r).needs) (range_with_len 0 n) ≡ held p h q n
+unfolding held
+held_is p h q zero = refl
+held_is p h q (suc n) =
+    let r = held_is p h q n in let m = or_more (λ r. not (is_idle (h.stage r)) && needed q (route p r).needs) 0 n in let z : 0 + n ≡ n = omega arith in cc
 
 pub locked_at : (v : ℕ) (xs ls : List ℕ) (x : ℕ) → x < length ls → get_or (lock_all v xs ls) x 0 ≡ pick (among x xs) v (get_or ls x 0)
 unfolding among
@@ -119,19 +106,18 @@ pub granted_is : (p : Plan) (h l w g : Interlocking) (r v : ℕ) (k : Route) (pa
 granted_is p h l w g r v k path nl nw a b c d ek ep ev el ew eg =
     alike_fits g _ a b c d (granted_alike p h l w g r k path nl nw ek ep (el ∙ ap (λ (z : ℕ). lock_path z path h) ev) ew eg)
 
-pub want_none : (e : Interlocking) (ns : List Need) (n : ℕ) → n ≡ length ns → e ≡ with_wanted e (want_all (drop n ns) e.wanted)
-want_none e ns n l =
-    let m : length ns ≤ n = omega arith in
-    let d = drop_all n ns m in
-    ap (λ (z : List Need). with_wanted e (want_all z e.wanted)) (sym d)
+-- the needs gone through from the last on: what is left of them, and the rest
+pub want_back : (e s g : Interlocking) (left front rest all : List Need) (n : Need) → left ≡ front ++ n ∷ [] → left ++ rest ≡ all → s ≡ with_wanted e (want_all rest e.wanted) →
+    g ≡ with_wanted s (set s.wanted n.point n.left) → (x : List Need) × (front ++ x ≡ all) × (g ≡ with_wanted e (want_all x e.wanted))
+want_back e s g left front rest all n el ea es eg =
+    (n ∷ rest, sym (append_assoc front (n ∷ []) rest) ∙ ap (λ k. k ++ rest) (sym el) ∙ ea, eg ∙ ap (λ (k : Interlocking). with_wanted k (set k.wanted n.point n.left)) es)
 
-pub want_more : (e s g : Interlocking) (ns : List Need) (i : ℕ) (n : Need) → 0 < i → i ≤ length ns → s ≡ with_wanted e (want_all (drop i ns) e.wanted) →
-    n ≡ get_or ns (i - 1) no_need → g ≡ with_wanted s (set s.wanted n.point n.left) → g ≡ with_wanted e (want_all (drop (i - 1) ns) e.wanted)
-want_more e s g ns i n a b es en eg =
-    let l : i - 1 < length ns = omega arith in
-    let z : (i - 1) + 1 ≡ i = omega arith in
-    let d : drop (i - 1) ns ≡ n ∷ drop i ns = drop_more ns (i - 1) no_need l ∙ ap (λ k. get_or ns (i - 1) no_need ∷ drop k ns) z ∙ ap (λ (k : Need). k ∷ drop i ns) (sym en) in
-    eg ∙ ap (λ (k : Interlocking). with_wanted k (set k.wanted n.point n.left)) es ∙ ap (λ (k : List Need). with_wanted e (want_all k e.wanted)) (sym d)
+pub want_first : (e : Interlocking) (left all : List Need) → left ≡ all → (x : List Need) × (left ++ x ≡ all) × (e ≡ with_wanted e (want_all x e.wanted))
+want_first e left all h = ([], append-nil left ∙ h, refl)
+
+pub want_through : (e s : Interlocking) (left rest all : List Need) → left ≡ [] → left ++ rest ≡ all → s ≡ with_wanted e (want_all rest e.wanted) → s ≡ with_wanted e (want_all all e.wanted)
+want_through e s left rest all el ea es =
+    let r : rest ≡ all = ap (λ k. k ++ rest) (sym el) ∙ ea in es ∙ ap (λ (k : List Need). with_wanted e (want_all k e.wanted)) r
 
 -- a section freed
 pub freed_is : (p : Plan) (h : Interlocking) (x r : ℕ) (k : Route) (o : Bool) (g : Stage) → x < length h.locks → x < length h.passed → r < length h.stages →

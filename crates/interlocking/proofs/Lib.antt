@@ -1,4 +1,5 @@
 pub mod Sweeps
+pub mod Made
 pub mod States
 pub mod Fits
 pub mod Said

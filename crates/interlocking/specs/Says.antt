@@ -1,11 +1,14 @@
 -- What the code's interlocking stands for, and what a request is answered.
-use Rattle.std.specs.Prelude.{◌≡◌, ℕ, zero, suc, Bool, false, not, ◌&&◌, List, [], ◌∷◌, ◌==◌, slice_index, slice_index_or, slice_set}
+use Rattle.std.specs.Prelude.{◌≡◌, ℕ, zero, suc, Bool, false, not, ◌&&◌, List, [], ◌∷◌, codes, ◌==◌, slice_index, slice_index_or, slice_set}
 use Rattle.plan.specs.declared.Need.{Need}
-use Rattle.plan.specs.Plan.{pick, Plan, Positions}
+use Rattle.plan.specs.Plan.{pick, Plan, Positions, marks}
+use Rattle.plan.specs.View.{plan_of}
 use Rattle.interlocking.specs.State.{State, Occupancy, does, acts}
-use Rattle.interlocking.specs.declared.Stage.TheVariants.{Idle}
+use Rattle.interlocking.specs.declared.Stage.{Stage}
+use Rattle.interlocking.specs.declared.Stage.TheVariants.{Idle, Set, Shown, Used, Falling}
 use Rattle.interlocking.specs.declared.Interlocking.{Interlocking}
 use Rattle.interlocking.specs.declared.Answer.{Answer}
+use Rattle.interlocking.specs.declared.Sight.{Sight}
 use Rattle.interlocking.specs.declared.Request.{Request}
 use Rattle.interlocking.specs.declared.Request.TheVariants.{Ask, Clear, Back, Free, Tick}
 
@@ -49,6 +52,14 @@ pub record Says (p : Plan) (h : Interlocking) (s : Occupancy) (t : Positions) (a
   pub state : state_of left ≡ acts p (state_of h) s t a
   pub unchanged : does p (state_of h) s t a ≡ false → left ≡ h
 
+-- can it be done, by what is seen
+abbrev pub does_at : Sight → State → Request → Bool
+does_at v h a = does (plan_of v.plan) h (marks v.occupied.now) (marks v.lies.now) a
+
+-- what is said by what is seen
+abbrev pub SaysAt : Sight → Interlocking → Request → Interlocking → Answer → Type 0
+SaysAt v h a left r = Says (plan_of v.plan) h (marks v.occupied.now) (marks v.lies.now) a left r
+
 -- each place of a list after a sweep over it
 abbrev pub Swept : {A : Type 0} → (ℕ → A → A) → A → List A → List A → Type 0
 Swept {A} f d old new = (x : ℕ) → slice_index_or new x d ≡ f x (slice_index_or old x d)
@@ -83,3 +94,11 @@ want_all (n ∷ ns) w = slice_set (want_all ns w) n.point n.left
 
 abbrev pub with_wanted : Interlocking → List Bool → Interlocking
 with_wanted h w = record { locks = h.locks; passed = h.passed; stages = h.stages; wanted = w }
+
+-- a stage in a word
+abbrev pub stage_name : Stage → List ℕ
+stage_name Idle = codes "idle"
+stage_name Set = codes "set"
+stage_name Shown = codes "shown"
+stage_name Used = codes "used"
+stage_name (Falling n) = codes "falling"

@@ -1,13 +1,13 @@
 // A route is asked for.
-ghost use Rattle.std.specs.Prelude.{◌≡◌, ◌<◌, false, not, ◌&&◌, length, set, ◌==◌, slice_index, slice_index_or, slice_set};
-ghost use Rattle.interlocking.specs.Says.{lock_path, Says, state_of, want_all, with_lock, with_wanted};
-ghost use Rattle.interlocking.specs.State.{all_free, can_have, can_want, does, done, fitted, held, is_idle};
+ghost use Rattle.std.specs.Prelude.{◌≡◌, false, not, ◌&&◌, length, ◌==◌, slice_index, slice_index_or, slice_set};
+ghost use Rattle.interlocking.specs.Says.{does_at, lock_path, SaysAt, state_of, want_all, with_lock, with_wanted};
+ghost use Rattle.interlocking.specs.State.{all_free, can_have, can_want, done, fitted, held, is_idle};
 ghost use Rattle.interlocking.specs.declared.Request.TheVariants.{Ask};
 ghost use Rattle.interlocking.specs.declared.Stage.TheVariants.{Idle};
 ghost use Rattle.plan.specs.Plan.{marks, needed, route as the_route};
 ghost use Rattle.plan.specs.View.{plan_of, route_of};
 
-use crate::{Answer, Interlocking, Request, Stage, lock_for};
+use crate::{Answer, Interlocking, Request, RouteNumber, Sight, Stage};
 use conditions::{is_free, may_set, may_turn};
 use plan::Need;
 use plan::read::mark_at;
@@ -25,12 +25,7 @@ impl Interlocking {
     fn all_free(&self, occupied: &[bool], path: &[u16]) -> bool
         ensures { result ≡ all_free (state_of self.now) (marks occupied.now) path.now }
     {
-        for x in path {
-            if !self.is_free(occupied, *x as usize) {
-                return false;
-            }
-        }
-        true
+        path.iter().all(|&x| self.is_free(occupied, x as usize))
     }
 
     // Does a route that is not idle need a point?
@@ -43,15 +38,10 @@ impl Interlocking {
     fn held(&self, plan: Plan<'_>, q: u16) -> bool
         ensures { result ≡ held (plan_of plan.entry) (state_of self.now) q (length (plan_of plan.entry).routes) }
     {
-        let n = plan.routes() as usize;
-        for r in 0..n {
-            if self.holds(plan, r, q) {
-                return true;
-            }
-        }
-        false
+        (0..plan.routes() as usize).any(|r| self.holds(plan, r, q))
     }
 
+    // A need is looked at without the points as they lie, so without a whole `Sight`.
     fn can_want(&self, plan: Plan<'_>, occupied: &[bool], need: Need) -> bool
         ensures { result ≡ can_want (plan_of plan.entry) (state_of self.now) (marks occupied.now) need }
     {
@@ -69,23 +59,19 @@ impl Interlocking {
     fn can_have(&self, plan: Plan<'_>, occupied: &[bool], route: Route<'_>) -> bool
         ensures { result ≡ can_have (plan_of plan.entry) (state_of self.now) (marks occupied.now) (route_of route.entry).needs }
     {
-        let n = route.needs();
-        for i in 0..n {
-            if !self.can_want(plan, occupied, route.need(i)) {
-                return false;
-            }
-        }
-        true
+        route
+            .needs()
+            .all(|need| self.can_want(plan, occupied, need))
     }
 
-    fn can_ask(&self, plan: Plan<'_>, occupied: &[bool], lies: &[bool], r: usize) -> bool
-        ensures { result ≡ does (plan_of plan.entry) (state_of self.now) (marks occupied.now) (marks lies.now) (Ask r) }
+    fn can_ask(&self, sight: Sight<'_>, r: usize) -> bool
+        ensures { result ≡ does_at sight.entry (state_of self.now) (Ask r) }
     {
-        let route = plan.route(r);
-        let free = self.all_free(occupied, route.path());
-        let had = self.can_have(plan, occupied, route);
+        let route = sight.plan.route(r);
+        let free = self.all_free(sight.occupied, route.path());
+        let had = self.can_have(sight.plan, sight.occupied, route);
         let idle = self.stage_of(r).is_idle();
-        may_set(r < plan.routes() as usize, idle, free, had)
+        may_set(r < sight.plan.routes() as usize, idle, free, had)
     }
 
     // One lock written; a number that is no section changes nothing.
@@ -122,43 +108,29 @@ impl Interlocking {
     fn want_all(mut self, route: Route<'_>) -> Self
         ensures { result ≡ with_wanted self (want_all (route_of route.entry).needs self.wanted) }
     {
-        let n = route.needs();
-        for i in (0..n).rev() {
-            self = self.with_want(route.need(i));
+        for need in route.needs().rev() {
+            self = self.with_want(need);
         }
         self
     }
 
-    fn granted(self, plan: Plan<'_>, r: usize) -> Self
-        requires { r < 64 }
-        ensures { state_of result ≡ fitted (done (plan_of plan.entry) (state_of self) (Ask r)) }
+    fn granted(self, plan: Plan<'_>, r: RouteNumber) -> Self
+        ensures { state_of result ≡ fitted (done (plan_of plan.entry) (state_of self) (Ask r.number)) }
     {
-        let route = plan.route(r);
-        self.lock_path(route.path(), lock_for(r))
+        let route = plan.route(r.number);
+        self.lock_path(route.path(), r.lock())
             .want_all(route)
             .restaged(r, Stage::Set)
     }
 
     // A route is set, if it may be: its path is locked and its points are wanted.
-    pub fn ask(
-        mut self,
-        plan: Plan<'_>,
-        occupied: &[bool],
-        lies: &[bool],
-        r: usize,
-    ) -> (Self, Answer)
-        ensures { Says (plan_of plan.entry) self (marks occupied.now) (marks lies.now) (Ask r) result.0 result.1 }
+    pub fn ask(mut self, sight: Sight<'_>, r: usize) -> (Self, Answer)
+        ensures { SaysAt sight.entry self (Ask r) result.0 result.1 }
     {
-        let done = self.can_ask(plan, occupied, lies, r);
+        let done = self.can_ask(sight, r);
         if done {
-            self = self.granted(plan, r);
+            self = self.granted(sight.plan, RouteNumber { number: r });
         }
-        (
-            self,
-            Answer {
-                request: Request::Ask(r),
-                done,
-            },
-        )
+        (self, Request::Ask(r).answered(done))
     }
 }

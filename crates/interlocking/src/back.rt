@@ -1,24 +1,29 @@
 // A route is taken back.
-ghost use Rattle.std.specs.Prelude.{◌≡◌, ◌<◌, slice_index_or};
-ghost use Rattle.interlocking.specs.Says.{Says, state_of};
-ghost use Rattle.interlocking.specs.State.{does, forget, taken_back};
+ghost use Rattle.std.specs.Prelude.{◌≡◌, not, ◌&&◌, ◌==◌, slice_index_or};
+ghost use Rattle.interlocking.specs.Says.{does_at, SaysAt, state_of};
+ghost use Rattle.interlocking.specs.State.{forget, taken_back};
 ghost use Rattle.interlocking.specs.declared.Request.TheVariants.{Back};
 ghost use Rattle.interlocking.specs.declared.Stage.TheVariants.{Idle};
-ghost use Rattle.plan.specs.Plan.{marks};
-ghost use Rattle.plan.specs.View.{plan_of};
 
-use crate::{Answer, Interlocking, Request, Stage, lock_for, sweep};
+use crate::{Answer, Interlocking, Request, RouteNumber, Sight, Stage, sweep};
 use conditions::may_take_back;
-use plan::view::Plan;
+use std::array;
+
+// Is a section still passed, if what has this lock is passed no more?
+fn still_passed(passed: bool, held: u16, lock: u16) -> bool
+    ensures { result ≡ (not (held == lock) && passed) }
+{
+    (held != lock) & passed
+}
 
 impl Interlocking {
-    fn can_back(&self, plan: Plan<'_>, occupied: &[bool], lies: &[bool], r: usize) -> bool
-        ensures { result ≡ does (plan_of plan.entry) (state_of self.now) (marks occupied.now) (marks lies.now) (Back r) }
+    fn can_back(&self, sight: Sight<'_>, r: usize) -> bool
+        ensures { result ≡ does_at sight.entry (state_of self.now) (Back r) }
     {
-        let vacant = sweep::all_vacant(occupied, plan.route(r).path());
+        let vacant = sweep::all_vacant(sight.occupied, sight.plan.route(r).path());
         let stage = self.stage_of(r);
         may_take_back(
-            r < plan.routes() as usize,
+            r < sight.plan.routes() as usize,
             stage.can_fall(),
             stage.is_used(),
             vacant,
@@ -26,19 +31,19 @@ impl Interlocking {
     }
 
     // The sections of a route are not passed.
-    fn forget(mut self, r: usize) -> Self
-        requires { r < 64 }
-        ensures { state_of result ≡ forget (state_of self) r }
+    fn forget(mut self, r: RouteNumber) -> Self
+        ensures { state_of result ≡ forget (state_of self) r.number }
     {
-        sweep::forget(&mut self.passed, &self.locks, lock_for(r));
+        let lock = r.lock();
+        let passed = array::from_fn(|x| still_passed(self.is_passed(x), self.lock_of(x), lock));
+        self.passed = passed;
         self
     }
 
-    fn taken_back(self, r: usize, time: u16) -> Self
-        requires { r < 64 }
-        ensures { state_of result ≡ taken_back time (state_of self) r (slice_index_or self.stages r Idle) }
+    fn taken_back(self, r: RouteNumber, time: u16) -> Self
+        ensures { state_of result ≡ taken_back time (state_of self) r.number (slice_index_or self.stages r.number Idle) }
     {
-        match self.stages[r] {
+        match self.stages[r.number] {
             Stage::Set => self.let_go(r),
             Stage::Shown => self.restaged(r, Stage::Falling(time)),
             Stage::Used => self.forget(r).let_go(r),
@@ -47,25 +52,13 @@ impl Interlocking {
     }
 
     // A set route is let go at once, a shown one falls, a used one with nothing in its path is let go.
-    pub fn back(
-        mut self,
-        plan: Plan<'_>,
-        occupied: &[bool],
-        lies: &[bool],
-        r: usize,
-    ) -> (Self, Answer)
-        ensures { Says (plan_of plan.entry) self (marks occupied.now) (marks lies.now) (Back r) result.0 result.1 }
+    pub fn back(mut self, sight: Sight<'_>, r: usize) -> (Self, Answer)
+        ensures { SaysAt sight.entry self (Back r) result.0 result.1 }
     {
-        let done = self.can_back(plan, occupied, lies, r);
+        let done = self.can_back(sight, r);
         if done {
-            self = self.taken_back(r, plan.time());
+            self = self.taken_back(RouteNumber { number: r }, sight.plan.time());
         }
-        (
-            self,
-            Answer {
-                request: Request::Back(r),
-                done,
-            },
-        )
+        (self, Request::Back(r).answered(done))
     }
 }

@@ -1,13 +1,13 @@
 // A section is freed.
-ghost use Rattle.std.specs.Prelude.{◌≡◌, ◌-◌, ◌<◌, ◌≤◌, slice_index};
-ghost use Rattle.interlocking.specs.Says.{Says, state_of};
-ghost use Rattle.interlocking.specs.State.{behind_free, does, done};
+ghost use Rattle.std.specs.Prelude.{◌≡◌, ◌<◌, ◌≤◌, slice_index};
+ghost use Rattle.interlocking.specs.Says.{does_at, SaysAt, state_of};
+ghost use Rattle.interlocking.specs.State.{behind_free, done};
 ghost use Rattle.interlocking.specs.declared.Request.TheVariants.{Free};
 ghost use Rattle.interlocking.specs.declared.Stage.TheVariants.{Idle};
-ghost use Rattle.plan.specs.Plan.{marks, pick};
+ghost use Rattle.plan.specs.Plan.{pick};
 ghost use Rattle.plan.specs.View.{plan_of};
 
-use crate::{Answer, Interlocking, Request, Stage};
+use crate::{Answer, Interlocking, Request, Sight, Stage};
 use conditions::may_free;
 use plan::read::mark_at;
 use plan::view::Plan;
@@ -36,22 +36,22 @@ impl Interlocking {
         true
     }
 
-    fn can_free(&self, plan: Plan<'_>, occupied: &[bool], lies: &[bool], x: usize) -> bool
-        ensures { result ≡ does (plan_of plan.entry) (state_of self.now) (marks occupied.now) (marks lies.now) (Free x) }
+    fn can_free(&self, sight: Sight<'_>, x: usize) -> bool
+        ensures { result ≡ does_at sight.entry (state_of self.now) (Free x) }
     {
         let lock = self.lock_of(x);
-        if lock == 0 || lock > plan.routes() {
+        if lock == 0 || lock > sight.plan.routes() {
             return false;
         }
         let r = lock as usize - 1;
-        let route = plan.route(r);
+        let route = sight.plan.route(r);
         let behind = self.behind_free(route.path(), x, lock);
         let last = x == route.last() as usize;
         may_free(
             self.is_passed(x),
             self.stage_of(r).is_used(),
             behind,
-            mark_at(occupied, x),
+            mark_at(sight.occupied, x),
             last,
         )
     }
@@ -72,25 +72,13 @@ impl Interlocking {
     }
 
     // A section is locked no more; with the last one of its path the route is idle.
-    pub fn free(
-        mut self,
-        plan: Plan<'_>,
-        occupied: &[bool],
-        lies: &[bool],
-        x: usize,
-    ) -> (Self, Answer)
-        ensures { Says (plan_of plan.entry) self (marks occupied.now) (marks lies.now) (Free x) result.0 result.1 }
+    pub fn free(mut self, sight: Sight<'_>, x: usize) -> (Self, Answer)
+        ensures { SaysAt sight.entry self (Free x) result.0 result.1 }
     {
-        let done = self.can_free(plan, occupied, lies, x);
+        let done = self.can_free(sight, x);
         if done {
-            self = self.freed(plan, x);
+            self = self.freed(sight.plan, x);
         }
-        (
-            self,
-            Answer {
-                request: Request::Free(x),
-                done,
-            },
-        )
+        (self, Request::Free(x).answered(done))
     }
 }

@@ -2,14 +2,13 @@
 #![tactic(auto)]
 
 ghost use Rattle.std.specs.Prelude.{◌≡◌, ◌+◌, ◌<◌, true, false, replicate, slice_index, slice_index_or};
-ghost use Rattle.interlocking.specs.Says.{kind_of, request_of, Says, state_of, which_of};
+ghost use Rattle.interlocking.specs.Says.{kind_of, request_of, SaysAt, stage_name, state_of, which_of};
 ghost use Rattle.interlocking.specs.State.{at_rest, can_fall, is_falling, is_idle, is_open, is_set, is_used, let_go, restaged};
 ghost use Rattle.interlocking.specs.declared.Stage.TheVariants.{Idle};
-ghost use Rattle.plan.specs.Plan.{marks};
-ghost use Rattle.plan.specs.View.{plan_of};
 
 use plan::read::mark_at;
 use plan::view::Plan;
+use std::fmt;
 
 mod ask;
 mod back;
@@ -19,7 +18,7 @@ mod sweep;
 mod tick;
 
 // A route is idle, set, shown, used, or falling with some time left.
-#[derive(Clone, Copy)]
+#[derive(Clone, Copy, Debug, PartialEq, Eq)]
 pub enum Stage {
     Idle,
     Set,
@@ -29,25 +28,35 @@ pub enum Stage {
 }
 
 // What can be asked: a route set, shown, taken back, a section freed, and that time passes.
-#[derive(Clone, Copy)]
+#[derive(Clone, Copy, Debug, Default, PartialEq, Eq)]
 pub enum Request {
     Ask(usize),
     Clear(usize),
     Back(usize),
     Free(usize),
+    #[default]
     Tick,
 }
 
-// What was asked, and whether it was done.
+// What is seen when something is asked: the plan, the sections that are occupied, and the points that lie left.
 #[derive(Clone, Copy)]
+pub struct Sight<'a> {
+    pub plan: Plan<'a>,
+    pub occupied: &'a [bool],
+    pub lies: &'a [bool],
+}
+
+// What was asked, and whether it was done.
+#[derive(Clone, Copy, Debug, PartialEq, Eq)]
 pub struct Answer {
     pub request: Request,
     pub done: bool,
 }
 
-// A lock is 0, or one more than the route that holds the section; a section is passed if it has been occupied since it was locked;
-// a point is wanted left or not.
-#[derive(Clone, Copy)]
+// A lock is 0, or one more than the route that holds the section: the number that the lent memory holds, so not an `Option`.
+// A section is passed if it has been occupied since it was locked; a point is wanted left or not.
+// Arrays of a fixed size, given on by value: the station's memory, with no heap.
+#[derive(Clone, Copy, Debug, PartialEq, Eq)]
 pub struct Interlocking {
     pub locks: [u16; 64],
     pub passed: [bool; 64],
@@ -56,6 +65,19 @@ pub struct Interlocking {
 }
 
 impl Stage {
+    // How far a route is, in a word: no derive prints a variant without what it holds.
+    pub fn name(self) -> &'static str
+        ensures { result.now ≡ stage_name self }
+    {
+        match self {
+            Stage::Idle => "idle",
+            Stage::Set => "set",
+            Stage::Shown => "shown",
+            Stage::Used => "used",
+            Stage::Falling(_) => "falling",
+        }
+    }
+
     pub fn is_idle(self) -> bool
         ensures { result ≡ is_idle self }
     {
@@ -85,27 +107,42 @@ impl Stage {
     pub fn is_open(self) -> bool
         ensures { result ≡ is_open self }
     {
-        match self {
-            Stage::Shown => true,
-            Stage::Falling(_) => true,
-            _ => false,
-        }
+        matches!(self, Stage::Shown | Stage::Falling(_))
     }
 
     // Can it be taken back, whatever stands in its path?
     pub fn can_fall(self) -> bool
         ensures { result ≡ can_fall self }
     {
-        match self {
-            Stage::Set => true,
-            Stage::Shown => true,
-            _ => false,
-        }
+        matches!(self, Stage::Set | Stage::Shown)
     }
 }
 
 impl Request {
-    // The number that a request has outside.
+    // The request that a number stands for; a number of no request lets time pass, so this can't fail as a `TryFrom` would.
+    pub fn of(kind: u64, which: usize) -> Request
+        ensures { result ≡ request_of kind which }
+    {
+        match kind {
+            0 => Request::Ask(which),
+            1 => Request::Clear(which),
+            2 => Request::Back(which),
+            3 => Request::Free(which),
+            _ => Request::Tick,
+        }
+    }
+
+    fn answered(self, done: bool) -> Answer
+        ensures request { result.request ≡ self }
+        ensures done { result.done ≡ done }
+    {
+        Answer {
+            request: self,
+            done,
+        }
+    }
+
+    // The number that a request has outside; it holds data, so this is no cast.
     pub fn kind(self) -> u64
         ensures { result ≡ kind_of self }
     {
@@ -123,11 +160,22 @@ impl Request {
         ensures { result ≡ which_of self }
     {
         match self {
-            Request::Ask(r) => r,
-            Request::Clear(r) => r,
-            Request::Back(r) => r,
+            Request::Ask(r) | Request::Clear(r) | Request::Back(r) => r,
             Request::Free(x) => x,
             Request::Tick => 0,
+        }
+    }
+}
+
+// As an event is written in a script.
+impl fmt::Display for Request {
+    fn fmt<W: fmt::Write>(&self, f: &mut fmt::Formatter<W>) -> fmt::Result {
+        match self {
+            Request::Ask(r) => write!(f, "ask {r}"),
+            Request::Clear(r) => write!(f, "clear {r}"),
+            Request::Back(r) => write!(f, "back {r}"),
+            Request::Free(x) => write!(f, "free {x}"),
+            Request::Tick => f.write_str("tick"),
         }
     }
 }
@@ -135,11 +183,7 @@ impl Request {
 fn stage_at(stages: &[Stage], r: usize) -> Stage
     ensures { result ≡ slice_index_or stages.now r Idle }
 {
-    if r < stages.len() {
-        stages[r]
-    } else {
-        Stage::Idle
-    }
+    stages.get(r).copied().unwrap_or(Stage::Idle)
 }
 
 // Every point is wanted left.
@@ -149,12 +193,20 @@ fn all_left() -> [bool; 32]
     [true; 32]
 }
 
-// The lock of a route.
-fn lock_for(r: usize) -> u16
-    requires { r < 64 }
-    ensures { result ≡ r + 1 }
-{
-    r as u16 + 1
+// The number of a route that there is room for.
+#[derive(Clone, Copy)]
+struct RouteNumber {
+    number: usize,
+    ghost below_64: { number < 64 },
+}
+
+impl RouteNumber {
+    // Its lock.
+    fn lock(self) -> u16
+        ensures { result ≡ self.number + 1 }
+    {
+        self.number as u16 + 1
+    }
 }
 
 impl Interlocking {
@@ -173,7 +225,7 @@ impl Interlocking {
     pub fn lock_of(&self, x: usize) -> u16
         ensures { result ≡ slice_index self.now.locks x }
     {
-        if x < 64 { self.locks[x] } else { 0 }
+        self.locks.get(x).copied().unwrap_or(0)
     }
 
     pub fn stage_of(&self, r: usize) -> Stage
@@ -194,42 +246,39 @@ impl Interlocking {
         mark_at(&self.wanted, q)
     }
 
-    fn restaged(mut self, r: usize, stage: Stage) -> Self
-        requires { r < 64 }
-        ensures { state_of result ≡ restaged (state_of self) r stage }
+    fn restaged(mut self, r: RouteNumber, stage: Stage) -> Self
+        ensures { state_of result ≡ restaged (state_of self) r.number stage }
     {
-        self.stages[r] = stage;
+        self.stages[r.number] = stage;
         self
     }
 
     // A route is idle, and its locks go.
-    fn let_go(mut self, r: usize) -> Self
-        requires { r < 64 }
-        ensures { state_of result ≡ let_go (state_of self) r }
+    fn let_go(mut self, r: RouteNumber) -> Self
+        ensures { state_of result ≡ let_go (state_of self) r.number }
     {
-        sweep::release(&mut self.locks, lock_for(r));
-        self.stages[r] = Stage::Idle;
+        sweep::release(&mut self.locks, r.lock());
+        self.stages[r.number] = Stage::Idle;
         self
     }
 
-    // What is asked for by its number.
-    pub fn act(
-        self,
-        plan: Plan<'_>,
-        occupied: &[bool],
-        lies: &[bool],
-        kind: u64,
-        which: usize,
-    ) -> (Self, Answer)
-        ensures { Says (plan_of plan.entry) self (marks occupied.now) (marks lies.now) (request_of kind which) result.0 result.1 }
+    // What is asked is done, or not, as the rules decide.
+    pub fn perform(self, sight: Sight<'_>, request: Request) -> (Self, Answer)
+        ensures { SaysAt sight.entry self request result.0 result.1 }
     {
-        let kind = kind;
-        match kind {
-            0 => self.ask(plan, occupied, lies, which),
-            1 => self.clear(plan, occupied, lies, which),
-            2 => self.back(plan, occupied, lies, which),
-            3 => self.free(plan, occupied, lies, which),
-            _ => self.tick(plan, occupied, lies),
+        match request {
+            Request::Ask(r) => self.ask(sight, r),
+            Request::Clear(r) => self.clear(sight, r),
+            Request::Back(r) => self.back(sight, r),
+            Request::Free(x) => self.free(sight, x),
+            Request::Tick => self.tick(sight),
         }
+    }
+
+    // What is asked for by its number.
+    pub fn act(self, sight: Sight<'_>, kind: u64, which: usize) -> (Self, Answer)
+        ensures { SaysAt sight.entry self (request_of kind which) result.0 result.1 }
+    {
+        self.perform(sight, Request::of(kind, which))
     }
 }

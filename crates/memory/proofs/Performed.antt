@@ -53,9 +53,10 @@ not_performed p s t q m left a k e f =
       unchanged = λ z. refl;
     }
 
-pub acted : (o : Option Refusal) (xs ys : List ℕ) (s : Occupancy) (t : Positions) (q : Request) (m m₁ : List ℕ) (a : Answer) → None ≡ o → ys ≡ xs →
-    Performs (plan_in ys) s t q m a m₁ → ActSays o (plan_in xs) s t q m (Ok a) m₁
-acted o xs ys s t q m m₁ a e f k =
-    let P : List ℕ → Type 0 = λ zs. Performs (plan_in zs) s t q m a m₁ in
-    let Q : Option Refusal → Type 0 = λ r. ActSays r (plan_in xs) s t q m (Ok a) m₁ in
-    subst Q e (a, refl, subst P f k)
+pub acted : (o : Option Refusal) (xs ys : List ℕ) (s : Occupancy) (t : Positions) (q r : Request) (m m₁ : List ℕ) (a : Answer) → None ≡ o → ys ≡ xs → q ≡ r →
+    Performs (plan_in ys) s t q m a m₁ → ActSays o (plan_in xs) s t r m (Ok a) m₁
+acted o xs ys s t q r m m₁ a e f g k =
+    let P : List ℕ → Type 0 = λ zs. Performs (plan_in zs) s t r m a m₁ in
+    let R : Request → Type 0 = λ z. Performs (plan_in ys) s t z m a m₁ in
+    let Q : Option Refusal → Type 0 = λ z. ActSays z (plan_in xs) s t r m (Ok a) m₁ in
+    subst Q e (a, refl, subst P f (subst R g k))

@@ -1,5 +1,6 @@
-// The entry: what is lent as numbers is looked at, read, acted on and written back.
-ghost use Rattle.std.specs.Prelude.{◌≡◌, length};
+// The entry: what is lent as numbers is looked at, read, acted on and written back. Slices and numbers stand as parameters of their own, as a C caller lends them.
+ghost use Rattle.std.specs.Prelude.{◌≡◌, length, Ok, IfOk, OnOk};
+ghost use Rattle.std.specs.Result.{result_err};
 ghost use Rattle.plan.specs.Numbers.{plan_in};
 ghost use Rattle.plan.specs.Shape.{all_at_most};
 ghost use Rattle.plan.specs.View.{plan_of};
@@ -7,81 +8,76 @@ ghost use Rattle.interlocking.specs.Says.{request_of};
 ghost use Rattle.memory.specs.Entry.{marked, bad_lent, bad_asked, lent_refusal, refusal, Performs, ActSays};
 
 use crate::{Asked, Lent, Refusal};
-use interlocking::Answer;
+use interlocking::{Answer, Request, Sight};
 use plan::view::Plan;
 
 // Are no numbers above this one?
 fn all_at_most(numbers: &[u16], most: u16) -> bool
     ensures { result ≡ all_at_most most numbers.now }
 {
-    for x in numbers {
-        if *x > most {
-            return false;
-        }
-    }
-    true
+    numbers.iter().all(|&x| x <= most)
 }
 
-// `positions` says whether those, where they are lent, have their length.
-fn bad_lent(memory: &[u16], seen: &[u8], positions: bool, routes: u16) -> Option<Lent>
-    ensures { result ≡ bad_lent memory.now seen.now positions routes }
+// `positions` says whether those, where they are lent, have their length: noting is lent none, and its refusals are the same.
+fn check_lent(memory: &[u16], seen: &[u8], positions: bool, routes: u16) -> Result<(), Lent>
+    ensures { result_err result ≡ bad_lent memory.now seen.now positions routes }
 {
     if memory.len() != 224 {
-        Some(Lent::Memory)
+        Err(Lent::Memory)
     } else if seen.len() != 64 {
-        Some(Lent::Occupied)
+        Err(Lent::Occupied)
     } else if !positions {
-        Some(Lent::Positions)
+        Err(Lent::Positions)
     } else if !all_at_most(&memory[0..64], routes) {
-        Some(Lent::Lock)
+        Err(Lent::Lock)
     } else {
-        None
+        Ok(())
     }
 }
 
-fn bad_asked(kind: u64, which: u64) -> Option<Asked>
-    ensures { result ≡ bad_asked kind which }
+// What is asked for by its number, or why there is no such thing.
+fn asked(kind: u64, which: u64) -> Result<Request, Asked>
+    ensures refused { result_err result ≡ bad_asked kind which }
+    ensures request { OnOk result (result ≡ Ok (request_of kind which)) }
 {
     if kind > 4 {
-        Some(Asked::Kind)
+        Err(Asked::Kind)
     } else if which > 63 {
-        Some(Asked::Which)
+        Err(Asked::Which)
     } else {
-        None
+        Ok(Request::of(kind, which as usize))
     }
 }
 
-// Why what is lent is turned away, if it is.
-pub fn lent_refusal(plan: &[u16], memory: &[u16], seen: &[u8], positions: bool) -> Option<Refusal>
-    ensures { result ≡ lent_refusal plan.now memory.now seen.now positions }
+// The plan that is lent, or why what is lent is turned away.
+pub fn lent<'a>(
+    plan: &'a [u16],
+    memory: &[u16],
+    seen: &[u8],
+    positions: bool,
+) -> Result<Plan<'a>, Refusal>
+    ensures refused { result_err result ≡ lent_refusal plan.now memory.now seen.now positions }
+    ensures plan { IfOk result (λ p. p.numbers.now ≡ plan.now) }
 {
-    if let Some(refusal) = plan::read::refusal(plan) {
-        return Some(Refusal::Plan(refusal));
-    }
-    match bad_lent(memory, seen, positions, plan[3]) {
-        Some(lent) => Some(Refusal::Lent(lent)),
-        None => None,
-    }
+    let plan = Plan::try_from(plan)?;
+    check_lent(memory, seen, positions, plan.routes())?;
+    Ok(plan)
 }
 
-// Why a request on numbers is turned away, if it is.
-pub fn refusal(
-    plan: &[u16],
+// The plan that is lent and what is asked, or why they are turned away; it only looks.
+pub fn taken<'a>(
+    plan: &'a [u16],
     memory: &[u16],
     seen: &[u8],
     turned: &[u8],
     kind: u64,
     which: u64,
-) -> Option<Refusal>
-    ensures { result ≡ refusal plan.now memory.now seen.now turned.now kind which }
+) -> Result<(Plan<'a>, Request), Refusal>
+    ensures refused { result_err result ≡ refusal plan.now memory.now seen.now turned.now kind which }
+    ensures taken { IfOk result (λ v. (v.0.numbers.now ≡ plan.now) × (v.1 ≡ request_of kind which)) }
 {
-    if let Some(refusal) = lent_refusal(plan, memory, seen, turned.len() == 32) {
-        return Some(refusal);
-    }
-    match bad_asked(kind, which) {
-        Some(asked) => Some(Refusal::Asked(asked)),
-        None => None,
-    }
+    let plan = lent(plan, memory, seen, turned.len() == 32)?;
+    Ok((plan, asked(kind, which)?))
 }
 
 fn perform(
@@ -89,17 +85,21 @@ fn perform(
     memory: &mut [u16],
     seen: &[u8],
     turned: &[u8],
-    kind: u64,
-    which: usize,
+    request: Request,
 ) -> Answer
     requires memory { length memory.old ≡ 224 }
     requires occupancy { length seen.now ≡ 64 }
     requires positions { length turned.now ≡ 32 }
-    ensures { Performs (plan_of plan.entry) (marked seen.now) (marked turned.now) (request_of kind which) memory.old result memory.new }
+    ensures { Performs (plan_of plan.entry) (marked seen.now) (marked turned.now) request memory.old result memory.new }
 {
     let occupied = crate::marks_in::<64>(seen);
     let lies = crate::marks_in::<32>(turned);
-    let (left, answer) = crate::read(memory).act(plan, &occupied, &lies, kind, which);
+    let sight = Sight {
+        plan,
+        occupied: &occupied,
+        lies: &lies,
+    };
+    let (left, answer) = crate::read(memory).perform(sight, request);
     if answer.done {
         crate::store(&left, memory);
     }
@@ -117,8 +117,6 @@ pub fn act(
 ) -> Result<Answer, Refusal>
     ensures { ActSays (refusal plan.now memory.old seen.now turned.now kind which) (plan_in plan.now) (marked seen.now) (marked turned.now) (request_of kind which) memory.old result memory.new }
 {
-    match refusal(plan, memory, seen, turned, kind, which) {
-        Some(refusal) => Err(refusal),
-        None => Ok(perform(Plan::new(plan), memory, seen, turned, kind, which as usize)),
-    }
+    let (plan, request) = taken(plan, memory, seen, turned, kind, which)?;
+    Ok(perform(plan, memory, seen, turned, request))
 }

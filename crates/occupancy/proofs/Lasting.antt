@@ -1,6 +1,5 @@
 -- What is noted, from memory to memory.
-use Rattle.std.proofs.Common.{◌≡◌, ℕ, ◌<◌, Bool, ltb, List, length, get_or, None, Option, refl, ap, ◌∙◌, subst, lit<}
-use Rattle.plan.specs.Numbers.{plan_in}
+use Rattle.std.proofs.Common.{◌≡◌, ℕ, ◌<◌, Bool, ltb, List, length, get_or, ap, ◌∙◌, lit<}
 use Rattle.plan.specs.Plan.{Plan, marks}
 use Rattle.interlocking.specs.State.{State, Occupancy}
 use Rattle.interlocking.specs.Says.{state_of}
@@ -9,11 +8,9 @@ use Rattle.interlocking.specs.declared.Stage.{Stage}
 use Rattle.interlocking.specs.declared.Stage.TheVariants.{Idle, Set, Shown, Used, Falling}
 use Rattle.memory.specs.Memory.{state_in, Written}
 use Rattle.memory.specs.Entry.{Stored}
-use Rattle.memory.specs.declared.Refusal.{Refusal}
 use Rattle.memory.proofs.Numbered.{size, Fits, Whole, stored_from}
 use Rattle.memory.proofs.Room.{fit_pick, fit_in}
 use Rattle.occupancy.specs.Notes.{entered, notes}
-use Rattle.occupancy.specs.Entry.{NoteSays}
 
 fit_entered : (b : Bool) (g : Stage) → size g < 65536 → size (entered b g) < 65536
 fit_entered b Idle l = l
@@ -32,10 +29,3 @@ pub noted_stored : (p : Plan) (s : Occupancy) (m m₁ : List ℕ) (h left : Inte
 noted_stored p s m m₁ h left sb l f o eh es e w =
     let d : state_of left ≡ notes p (state_in m) s = e ∙ ap (λ (k : State). notes p k (marks sb)) eh ∙ ap (notes p (state_in m)) es in
     stored_from (notes p (state_in m) s) left m m₁ l o (fit_notes p (state_in m) s (fit_in m f)) d w
-
-pub note_said : (o : Option Refusal) (xs ys : List ℕ) (s : Occupancy) (m m₁ : List ℕ) → None ≡ o → ys ≡ xs →
-    Stored (notes (plan_in ys) (state_in m) s) m m₁ → NoteSays o (plan_in xs) s m None m₁
-note_said o xs ys s m m₁ e f k =
-    let P : List ℕ → Type 0 = λ zs. Stored (notes (plan_in zs) (state_in m) s) m m₁ in
-    let Q : Option Refusal → Type 0 = λ r. NoteSays r (plan_in xs) s m None m₁ in
-    subst Q e (refl, subst P f k)

@@ -1,27 +1,18 @@
 -- What the arrays stand for after what is reported is noted.
-use Rattle.std.proofs.Common.{◌≡◌, ℕ, ◌<◌, ◌≤◌, Bool, true, false, ltb, List, length, get_or, refl, arith, le-ltb, lt-ltb, eq-eqb}
+use Rattle.std.proofs.Common.{◌≡◌, ℕ, ◌≤◌, Bool, true, false, ltb, List, length, get_or, refl, eq-eqb}
 use Rattle.std.proofs.lemmas.List.{get_or_past}
-use Rattle.plan.specs.Plan.{pick, Plan, Route, route, marks}
+use Rattle.plan.specs.Plan.{pick, Plan, marks}
 use Rattle.interlocking.specs.State.{Occupancy}
 use Rattle.interlocking.specs.Says.{state_of, Swept}
 use Rattle.interlocking.specs.declared.Interlocking.{Interlocking}
 use Rattle.interlocking.specs.declared.Stage.{Stage}
 use Rattle.interlocking.specs.declared.Stage.TheVariants.{Idle}
 use Rattle.interlocking.proofs.States.{same_state}
-use Rattle.occupancy.specs.Notes.{entered, entering, noted, notes}
+use Rattle.occupancy.specs.Notes.{entering, noted, notes}
 
 -- past the last lock nothing is passed
 pub noted_past : (locks : List ℕ) (occupied : List Bool) (x : ℕ) → length locks ≤ x → noted locks occupied x false ≡ false
 noted_past locks occupied x l = let e = get_or_past locks x 0 l in let g = eq-eqb (get_or locks x 0) 0 e in cc
-
--- a route of the plan, and a number that is none
-pub entering_one : (p : Plan) (s : Occupancy) (r n : ℕ) (k : Route) (b : Bool) (g v : Stage) → n ≡ length p.routes → r < n → k ≡ route p r →
-    b ≡ s (get_or k.path 0 0) → v ≡ entered b g → v ≡ entering p s r g
-entering_one p s r n k b g v e l f w z =
-    let m : r < length p.routes = omega arith in let t = lt-ltb r (length p.routes) m in cc
-
-pub entering_none : (p : Plan) (s : Occupancy) (r n : ℕ) (g : Stage) → n ≡ length p.routes → n ≤ r → g ≡ entering p s r g
-entering_none p s r n g e l = let m : length p.routes ≤ r = omega arith in let t = le-ltb r (length p.routes) m in cc
 
 -- an idle route is not entered
 pub entering_idle : (p : Plan) (s : Occupancy) (r : ℕ) → entering p s r Idle ≡ Idle

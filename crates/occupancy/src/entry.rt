@@ -21,14 +21,10 @@ fn noted(plan: Plan<'_>, memory: &mut [u16], seen: &[u8])
 }
 
 // No positions are lent, so none are turned away.
-pub fn note(plan: &[u16], memory: &mut [u16], seen: &[u8]) -> Option<Refusal>
+pub fn note(plan: &[u16], memory: &mut [u16], seen: &[u8]) -> Result<(), Refusal>
     ensures { NoteSays (lent_refusal plan.now memory.old seen.now true) (plan_in plan.now) (marked seen.now) memory.old result memory.new }
 {
-    match memory::entry::lent_refusal(plan, memory, seen, true) {
-        Some(refusal) => Some(refusal),
-        None => {
-            noted(Plan::new(plan), memory, seen);
-            None
-        }
-    }
+    let plan = memory::entry::lent(plan, memory, seen, true)?;
+    noted(plan, memory, seen);
+    Ok(())
 }

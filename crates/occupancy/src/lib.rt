@@ -1,17 +1,17 @@
 // What the interlocking notes of occupied sections.
 #![tactic(auto)]
 
-ghost use Rattle.std.specs.Prelude.{◌≡◌, false, length, slice_index};
+ghost use Rattle.std.specs.Prelude.{◌≡◌, slice_index};
 ghost use Rattle.plan.specs.Plan.{marks};
 ghost use Rattle.plan.specs.View.{plan_of, route_of};
-ghost use Rattle.interlocking.specs.Says.{state_of, Swept};
-ghost use Rattle.interlocking.specs.declared.Stage.TheVariants.{Idle};
-ghost use Rattle.occupancy.specs.Notes.{entered, entering, noted, noted_mark, notes};
+ghost use Rattle.interlocking.specs.Says.{state_of};
+ghost use Rattle.occupancy.specs.Notes.{entered, entering, noted_mark, notes};
 
 use interlocking::{Interlocking, Stage};
 use plan::read::mark_at;
 use plan::route::Route;
 use plan::view::Plan;
+use std::array;
 
 pub mod entry;
 
@@ -25,20 +25,11 @@ fn entered(stage: Stage, occupied: bool) -> Stage
     }
 }
 
-// A section that is locked and occupied is passed, and stays so.
+// A section that is locked (its lock is not 0) and occupied is passed, and stays so.
 fn noted(passed: bool, lock: u16, occupied: bool) -> bool
     ensures { result ≡ noted_mark passed lock occupied }
 {
     passed | ((lock != 0) & occupied)
-}
-
-fn note_passed(passed: &mut [bool], locks: &[u16], occupied: &[bool])
-    requires { length locks.now ≡ length passed.old }
-    ensures { Swept (noted locks.now occupied.now) false passed.old passed.new }
-{
-    for i in 0..passed.len() {
-        passed[i] = noted(passed[i], locks[i], mark_at(occupied, i));
-    }
 }
 
 // Is the first section of a route occupied?
@@ -59,19 +50,21 @@ fn entering(stage: Stage, plan: Plan<'_>, r: usize, occupied: &[bool]) -> Stage
     }
 }
 
-fn note_stages(stages: &mut [Stage], plan: Plan<'_>, occupied: &[bool])
-    ensures { Swept (entering (plan_of plan.entry) (marks occupied.now)) Idle stages.old stages.new }
-{
-    for r in 0..stages.len() {
-        stages[r] = entering(stages[r], plan, r, occupied);
-    }
-}
-
 // What is reported occupied is noted: routes that are entered, and sections that are passed.
-pub fn note(mut interlocking: Interlocking, plan: Plan<'_>, occupied: &[bool]) -> Interlocking
+pub fn note(interlocking: Interlocking, plan: Plan<'_>, occupied: &[bool]) -> Interlocking
     ensures { state_of result ≡ notes (plan_of plan.entry) (state_of interlocking) (marks occupied.now) }
 {
-    note_passed(&mut interlocking.passed, &interlocking.locks, occupied);
-    note_stages(&mut interlocking.stages, plan, occupied);
-    interlocking
+    let passed = array::from_fn(|x| {
+        noted(
+            interlocking.is_passed(x),
+            interlocking.lock_of(x),
+            mark_at(occupied, x),
+        )
+    });
+    let stages = array::from_fn(|r| entering(interlocking.stage_of(r), plan, r, occupied));
+    Interlocking {
+        passed,
+        stages,
+        ..interlocking
+    }
 }

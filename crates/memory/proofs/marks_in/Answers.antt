@@ -1,22 +1,8 @@
-use Rattle.std.proofs.Common.{◌≡◌, ◌<◌, false, length, get_or, replicate, ap, ◌∙◌, arith, length-set}
-use Rattle.std.proofs.lemmas.List.{length-replicate}
+use Rattle.std.proofs.Common.{◌≡◌, false, get_or, refl, rules}
 use Rattle.plan.specs.Numbers.{bitb}
-use Rattle.interlocking.proofs.Sweeps.{upto_none, upto_more}
-use Rattle.memory.proofs.Filled.{filled}
+use Rattle.interlocking.proofs.Made.{made_filled}
 use Rattle.memory.proofs.marks_in.Goals as goal
-
-pub loop-i-init : goal.loop-i-init
-loop-i-init g c = (upto_none (λ x o. bitb (get_or c.args.numbers.now x 0)) false (replicate g.row.N false), length-replicate g.row.N false)
-
-pub loop-i-preserved : goal.loop-i-preserved
-loop-i-preserved g c =
-    let l : c.loop-i.i < length c.loop-i.marks = omega arith in (
-      upto_more (λ x o. bitb (get_or c.args.numbers.now x 0)) false (replicate g.row.N false) c.loop-i.marks c.loop-i.i _ l c.loop-i.invariant.0
-          (ap bitb c.byte_at.ensures),
-      length-set _ _ _ ∙ c.loop-i.invariant.1,
-    )
 
 pub returns : goal.returns
 returns g c =
-    let e : c.loop-i.i ≡ g.row.N = omega arith in
-    filled (λ x. bitb (get_or c.args.numbers.now x 0)) false g.row.N c.loop-i.i c.loop-i.marks e c.loop-i.invariant.0
+    made_filled _ _ c.from_fn.result g.row.N (λ f. f.0.now ≡ c.args.numbers.now) (λ x. bitb (get_or c.args.numbers.now x 0)) false refl (λ p q i y s k. search rules) c.from_fn.ensures.items

@@ -10,19 +10,23 @@ use Rattle.interlocking.proofs.Said.{said_done, said_cant}
 use Rattle.interlocking.proofs.Fits.{same_fits}
 use Rattle.interlocking.proofs.Does.{back_there}
 use Rattle.interlocking.proofs.Interlocking.back.Goals as goal
+use Rattle.interlocking.proofs.Interlocking.back.Goals.{then-done, else-done}
 
-pub taken_back-self-requires : goal.taken_back-self-requires
-taken_back-self-requires c =
-    route_few c.args.plan.numbers.now c.args.r c.args.plan.formed
-    (back_there (plan_of c.args.plan) (state_of c.args.self) (marks c.args.occupied.now) (marks c.args.lies.now) c.args.r (sym c.can_back-done.ensures ∙ c.if-done.true))
+pub invariant_of-taken_back : goal.invariant_of-taken_back
+invariant_of-taken_back c =
+    record {
+      below_64 = route_few c.args.sight.plan.numbers.now c.args.r c.args.sight.plan.formed
+          (back_there (plan_of c.args.sight.plan) (state_of c.args.self) (marks c.args.sight.occupied.now) (marks c.args.sight.lies.now) c.args.r (sym c.can_back-done.ensures ∙ c.if-done.true));
+    }
 
-pub returns-then-done : goal.returns-then-done
+pub returns : goal.returns
 unfolding done
-returns-then-done c =
-    said_done (plan_of c.args.plan) c.args.self (marks c.args.occupied.now) (marks c.args.lies.now) (Back c.args.r) _ _ c.can_back-done.ensures c.if-done.true
-    (same_fits _ _ (search rules) (search rules) (search rules) (search rules)
-    (c.taken_back-self.ensures ∙ ap (λ n. taken_back n (state_of c.args.self) c.args.r (get_or c.args.self.stages c.args.r Idle)) c.time.ensures))
-
-pub returns-else-done : goal.returns-else-done
-returns-else-done c =
-    said_cant (plan_of c.args.plan) c.args.self (marks c.args.occupied.now) (marks c.args.lies.now) (Back c.args.r) _ c.can_back-done.ensures c.if-done.false
+returns c =
+    elim c.if-done.branch [
+      | then-done w ↦
+          said_done (plan_of c.args.sight.plan) c.args.self (marks c.args.sight.occupied.now) (marks c.args.sight.lies.now) (Back c.args.r) _ _ _ c.answered.ensures.request c.answered.ensures.done c.can_back-done.ensures w.if-done.true
+          (ap state_of w.self-is ∙ same_fits _ _ (search rules) (search rules) (search rules) (search rules)
+          (w.taken_back-self.ensures ∙ ap (λ n. taken_back n (state_of c.args.self) c.args.r (get_or c.args.self.stages c.args.r Idle)) w.time.ensures))
+      | else-done w ↦
+          said_cant (plan_of c.args.sight.plan) c.args.self (marks c.args.sight.occupied.now) (marks c.args.sight.lies.now) (Back c.args.r) _ _ _ c.answered.ensures.request c.answered.ensures.done c.can_back-done.ensures w.if-done.false w.self-is
+    ]

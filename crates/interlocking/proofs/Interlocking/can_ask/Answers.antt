@@ -8,6 +8,6 @@ use Rattle.interlocking.proofs.Interlocking.can_ask.Goals as goal
 
 pub returns : goal.returns
 returns c =
-    ask_is (plan_of c.args.plan) (state_of c.args.self.now) (marks c.args.occupied.now) (marks c.args.lies.now) c.args.r _ _ _ _ _ _ _
+    ask_is (plan_of c.args.sight.plan) (state_of c.args.self.now) (marks c.args.sight.occupied.now) (marks c.args.sight.lies.now) c.args.r _ _ _ _ _ _ _
     c.routes.ensures c.route-route.ensures c.stage_of.ensures
-    (c.all_free-free.ensures ∙ ap (all_free (state_of c.args.self.now) (marks c.args.occupied.now)) c.path.ensures) c.can_have-had.ensures c.is_idle-idle.ensures c.may_set.ensures
+    (c.all_free-free.ensures ∙ ap (all_free (state_of c.args.self.now) (marks c.args.sight.occupied.now)) c.path.ensures) c.can_have-had.ensures c.is_idle-idle.ensures c.may_set.ensures

@@ -1,15 +1,15 @@
+use Rattle.std.proofs.Common.{not, ◌&&◌, ◌∙◌, ap, rules, tests, arith}
+use Rattle.std.proofs.lemmas.Iterator.{YieldsList-from_range}
+use Rattle.std.proofs.lemmas.Iterator.Search.{any_from_yields_List}
+use Rattle.plan.specs.Plan.{needed, route}
 use Rattle.plan.specs.View.{plan_of}
+use Rattle.interlocking.specs.State.{held, is_idle}
 use Rattle.interlocking.specs.Says.{state_of}
-use Rattle.interlocking.proofs.Asks.{held_none, held_more, held_hit}
+use Rattle.interlocking.proofs.Asks.{held_is}
 use Rattle.interlocking.proofs.Interlocking.held.Goals as goal
 
-pub loop-r-init : goal.loop-r-init
-loop-r-init c = held_none (plan_of c.args.plan) (state_of c.args.self.now) c.args.q
-
-pub returns-then-holds : goal.returns-then-holds
-returns-then-holds c =
-    held_hit (plan_of c.args.plan) (state_of c.args.self.now) c.args.q c.loop-r.r _ _ _ c.loop-r-test.true c.routes-n.ensures c.holds.ensures c.if-holds.true
-
-pub loop-r-preserved : goal.loop-r-preserved
-loop-r-preserved c =
-    held_more (plan_of c.args.plan) (state_of c.args.self.now) c.args.q c.loop-r.r _ c.loop-r.invariant c.holds.ensures c.if-holds.false
+pub returns : goal.returns
+returns c =
+    any_from_yields_List (λ r. not (is_idle ((state_of c.args.self.now).stage r)) && needed c.args.q (route (plan_of c.args.plan) r).needs) c.any.new.self _ _ c.any.ensures.ran
+    (YieldsList-from_range 0 c.routes.result c.routes.result (cc) (omega arith)) (λ x b q k. search (rules, tests))
+    ∙ held_is (plan_of c.args.plan) (state_of c.args.self.now) c.args.q c.routes.result ∙ ap (held (plan_of c.args.plan) (state_of c.args.self.now) c.args.q) c.routes.ensures

@@ -1,19 +1,12 @@
-use Rattle.std.proofs.Common.{leb, refl, le-leb}
-use borrow.Author.Tests.{lt-leb}
+use Rattle.std.proofs.Common.{leb, refl, ◌∙◌, rules, tests}
+use Rattle.std.proofs.lemmas.Iterator.{YieldsList-from_slice}
+use Rattle.std.proofs.lemmas.Iterator.Search.{all_from_yields_List}
 use Rattle.plan.specs.Shape.{all_at_most}
-use Rattle.plan.proofs.Walks.{ands_more, ands_stop, ands_all}
+use Rattle.plan.proofs.Walks.{all_is}
 use Rattle.memory.proofs.entry.all_at_most.Goals as goal
-
-pub returns-then-x-most : goal.returns-then-x-most
-unfolding all_at_most
-returns-then-x-most c =
-    ands_stop (all_at_most c.args.most) (λ x. leb x c.args.most) (λ x xs. refl) _ _ 0 _ _ c.loop-x-test.true c.loop-x.invariant refl (lt-leb _ _ c.if-x-most.true)
-
-pub loop-x-preserved : goal.loop-x-preserved
-unfolding all_at_most
-loop-x-preserved c =
-    ands_more (all_at_most c.args.most) (λ x. leb x c.args.most) (λ x xs. refl) _ _ 0 _ _ c.loop-x-test.true c.loop-x.invariant refl (le-leb _ _ c.if-x-most.false)
 
 pub returns : goal.returns
 unfolding all_at_most
-returns c = ands_all (all_at_most c.args.most) refl _ _ _ c.loop-x-test.false c.loop-x.invariant
+returns c =
+    all_from_yields_List (λ x. leb x c.args.most) c.all.new.self _ _ c.all.ensures.ran (YieldsList-from_slice c.args.numbers.now cc) (λ x b q k. search (rules, tests))
+    ∙ all_is (all_at_most c.args.most) (λ x. leb x c.args.most) refl (λ x xs. refl) _
