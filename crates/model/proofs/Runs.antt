@@ -2,7 +2,7 @@
 use Rattle.std.proofs.Common.{◌≡◌, ℕ, ◌<◌, Bool, true, false, eqb, List, [], ◌∷◌, ◌++◌, length, get_or, take, sym, refl, ap, ◌∙◌, subst, arith, eqb-true}
 use mathlib.Core.Path.{fun_ext}
 use borrow.Author.Tests.{eqb-false}
-use Rattle.std.proofs.lemmas.List.{get_or_append_left, get_or_push, length_push, take-append-le, take_all}
+use Rattle.std.proofs.lemmas.List.{get_or_append_left, get_or_push, get_or_read, get_or-take, length_push, length-take, take-append-le, take_all}
 use Rattle.plan.specs.Plan.{pick, Plan, Positions}
 use Rattle.interlocking.specs.State.{State, at_rest}
 use Rattle.model.specs.World.{World, Lawful, after, can, next, empty_station}
@@ -96,6 +96,24 @@ pub played_next : (p q : Plan) (t : Positions) (es : List Event) (bs new : List 
     Told q 16 w v (get_or es i no_event) b → Played p t es bs w → Played p t es new v
 played_next p q t es bs new w v i b f n l h s k =
     played_more p t es bs new w v i (get_or es i no_event) b f n l refl (subst (λ (z : Plan). Told z 16 w v (get_or es i no_event) b) h s) k
+
+-- an event of those that the budget allows
+abbrev pub Allowed : ℕ → List Event → ℕ → Event → Type 0
+Allowed budget es i e = (i < length (take budget es)) × (e ≡ get_or (take budget es) i e)
+
+allowed : (budget : ℕ) (es : List Event) (i : ℕ) (e : Event) → Allowed budget es i e → (i < length es) × (e ≡ get_or es i no_event)
+allowed budget es i e h =
+    let n = length-take budget es in
+    let l : i < budget = omega (arith, n, h.0) in
+    let m : i < length es = omega (arith, n, h.0) in (
+      m,
+      get_or_read es i e m (h.1 ∙ get_or-take budget es i e l) no_event,
+    )
+
+pub played_allowed : (p q : Plan) (t : Positions) (budget : ℕ) (es : List Event) (bs new : List Bool) (w v : World) (i : ℕ) (e : Event) (b : Bool) → new ≡ bs ++ b ∷ [] → length bs ≡ i → Allowed budget es i e → q ≡ p →
+    Told q 16 w v e b → Played p t es bs w → Played p t es new v
+played_allowed p q t budget es bs new w v i e b f n a h s k =
+    let g = allowed budget es i e a in played_more p t es bs new w v i e b f n g.0 g.1 (subst (λ (z : Plan). Told z 16 w v e b) h s) k
 
 pub start : (h : State) (t : Positions) (ts : List HeldTrain) → h ≡ at_rest → Nowhere 16 ts → ◌≡◌ {A = World} (record { interlocking = h; lies = t; trains = trains_of ts }) (empty_station t)
 unfolding empty_station

@@ -1,28 +1,26 @@
 -- From one train written, and from what is noted, to one step of the world.
-use Rattle.std.proofs.Common.{◌≡◌, ℕ, ◌<◌, ◌≤◌, Bool, true, false, not, ◌&&◌, eqb, ltb, List, [], ◌∷◌, ◌++◌, length, get_or, set, vec_items, vec_len, sym, refl, ap, ◌∙◌, arith, ltb-true, eqb-true}
+use Rattle.std.proofs.Common.{◌≡◌, ℕ, ◌<◌, ◌≤◌, Bool, true, false, not, ◌&&◌, eqb, ltb, List, [], ◌∷◌, ◌++◌, length, get_or, set, vec_items, vec_len, Result, Ok, Err, MatchResult, sym, refl, ap, ◌∙◌, subst, arith, ltb-true, eqb-true}
 use mathlib.Core.Path.{fun_ext}
 use borrow.Author.Tests.{eqb-false}
-use Rattle.std.specs.Vec.{with_item}
 use Rattle.std.proofs.lemmas.List.{get_or-set_same, get_or-set_other}
 use Rattle.plan.specs.Plan.{pick, Plan, Positions, beyond, marks}
 use Rattle.interlocking.specs.State.{State, Occupancy, does, acts}
-use Rattle.interlocking.specs.Says.{state_of, Says, request_of, kind_of, which_of}
+use Rattle.interlocking.specs.Says.{state_of, Says}
 use Rattle.interlocking.specs.declared.Answer.{Answer}
 use Rattle.interlocking.specs.declared.Request.{Request}
-use Rattle.interlocking.specs.declared.Request.TheVariants.{Ask, Clear, Back, Free, Tick}
 use Rattle.interlocking.specs.declared.Interlocking.{Interlocking}
 use Rattle.occupancy.specs.Notes.{notes}
 use Rattle.model.specs.World.{World, can, next, trains_after, lies_after, state_after}
 use Rattle.trains.specs.Trains.{Train, occupied, front, without_last, reversed, empty, with_train}
 use Rattle.model.specs.Held.{world_of, occupied_in}
-use Rattle.trains.specs.Held.{train_of, trains_of, all_inside, trains_inside}
-use Rattle.model.specs.Steps.{happens, Told, StaysInside, Moved, Noted}
+use Rattle.trains.specs.Held.{train_of, trains_of, all_inside, trains_inside, within}
+use Rattle.model.specs.Steps.{happens, Told}
 use Rattle.model.specs.declared.Event.{Event}
 use Rattle.model.specs.declared.Event.TheVariants.{Asked, Turns, Goes, Draws, Reverses, Comes, Leaves}
 use Rattle.trains.specs.declared.train.Train.{Train as HeldTrain}
 use Rattle.model.specs.declared.world.World.{World as HeldWorld}
 use Rattle.trains.proofs.Bodies.{cons_inside, cut_inside, empty_nil, reversed_inside, none_inside}
-use Rattle.trains.proofs.Trains.{trains_set, train_here, with_same, inside_at, inside_set}
+use Rattle.trains.proofs.Trains.{trains_set, train_here, with_same, inside_at, inside_set, seen_all}
 
 -- what can happen says
 first : (a b : Bool) → a && b ≡ true → a ≡ true
@@ -79,20 +77,20 @@ small_section p n w i up x h l = let k = come_section p n w i up x h in omega ar
 pub few_turn : (p : Plan) (n : ℕ) (w : World) (q : ℕ) → can p n w (Turns q) ≡ true → p.points ≤ 32 → q < 32
 few_turn p n w q h l = let k = turn_under p n w q h in omega arith
 
--- one train written
-abbrev pub written : HeldWorld → ℕ → HeldTrain → HeldWorld
-written w i t = record { interlocking = w.interlocking; lies = w.lies; trains = with_item w.trains i t }
+-- the world with one train written
+abbrev pub written : HeldWorld → ℕ → HeldTrain → World
+written w i t = record { interlocking = state_of w.interlocking; lies = marks w.lies; trains = trains_of (set (vec_items w.trains) i t) }
 
-pub moved : (w : HeldWorld) (i : ℕ) (t : HeldTrain) (r : Train) → i < vec_len w.trains → train_of t ≡ r → Moved w (written w i t) i r
-moved w i t r l f =
-    let m = w.trains.ok.0 in
-    record {
-      interlocking = refl;
-      lies = refl;
-      trains = trains_set (vec_items w.trains) _ i t r refl f (omega arith);
-      count = refl;
-      inside = λ h k. inside_set (vec_items w.trains) _ i t r refl f h k;
-    }
+moved : (w : HeldWorld) (i : ℕ) (t : HeldTrain) (r : Train) → i < vec_len w.trains → train_of t ≡ r →
+    trains_of (set (vec_items w.trains) i t) ≡ with_train (trains_of (vec_items w.trains)) i r.up r.body
+moved w i t r l f = let m = w.trains.ok.0 in trains_set (vec_items w.trains) _ i t r refl f (omega arith)
+
+-- it stands in sections below 64, and so all do
+still_inside : (w : HeldWorld) (i : ℕ) (t : HeldTrain) (r : Train) → train_of t ≡ r → all_inside r.body ≡ true → trains_inside (set (vec_items w.trains) i t) ≡ true
+still_inside w i t r f k = inside_set (vec_items w.trains) _ i t r refl f w.inside k
+
+inside_of : (w : HeldWorld) (i : ℕ) → all_inside (trains_of (vec_items w.trains) i).body ≡ true
+inside_of w i = inside_at (vec_items w.trains) i w.inside
 
 -- worlds with equal parts
 pub same_world : (h g : State) (t u : Positions) (a b : ℕ → Train) → h ≡ g → t ≡ u → a ≡ b →
@@ -106,174 +104,135 @@ told_not p n w e b h f = record { told = sym f ∙ h; done = λ z. absurd (grind
 pub told_done : (p : Plan) (n : ℕ) (w v : World) (e : Event) (b : Bool) → b ≡ happens p n w e → b ≡ true → v ≡ next p n w e → Told p n w v e true
 told_done p n w v e b h f k = record { told = sym f ∙ h; done = λ z. k; not_done = λ z. absurd (grind arith) }
 
-pub stays_same : (w : HeldWorld) → trains_inside (vec_items w.trains) ≡ true → StaysInside w w
-stays_same w h = record { count = refl; inside = h }
-
-pub step_moved : (p : Plan) (old new : HeldWorld) (i : ℕ) (r : Train) (e : Event) → Moved old new i r →
-    state_after p (vec_len old.trains) (world_of old) e ≡ state_of old.interlocking → lies_after (world_of old) e ≡ marks old.lies →
-    trains_after p (world_of old) e ≡ with_train (trains_of (vec_items old.trains)) i r.up r.body →
-    world_of new ≡ next p (vec_len old.trains) (world_of old) e
-step_moved p old new i r e m a b d =
-    same_world _ _ _ _ _ _ (ap state_of m.interlocking ∙ sym a) (ap marks m.lies ∙ sym b) (m.trains ∙ sym d)
-
-pub step_noted : (p : Plan) (old mid new : HeldWorld) (i : ℕ) (r : Train) (e : Event) → Moved old mid i r → Noted p mid new →
-    state_after p (vec_len old.trains) (world_of old) e ≡ notes p (state_of old.interlocking) (occupied (vec_len old.trains) (trains_after p (world_of old) e)) →
-    lies_after (world_of old) e ≡ marks old.lies →
-    trains_after p (world_of old) e ≡ with_train (trains_of (vec_items old.trains)) i r.up r.body →
-    world_of new ≡ next p (vec_len old.trains) (world_of old) e
-step_noted p old mid new i r e m n a b d =
-    same_world _ _ _ _ _ _
-    (n.interlocking ∙ ap (λ (h : Interlocking). notes p (state_of h) (occupied_in mid)) m.interlocking
-    ∙ ap (λ (k : ℕ). notes p (state_of old.interlocking) (occupied k (trains_of (vec_items mid.trains)))) m.count
-    ∙ ap (λ (ts : ℕ → Train). notes p (state_of old.interlocking) (occupied (vec_len old.trains) ts)) (m.trains ∙ sym d) ∙ sym a)
-    (ap marks (n.lies ∙ m.lies) ∙ sym b) (ap (λ v. trains_of (vec_items v)) n.trains ∙ m.trains ∙ sym d)
-
-pub step_failed : (old new : HeldWorld) (i : ℕ) (r : Train) → Moved old new i r → r ≡ trains_of (vec_items old.trains) i → world_of new ≡ world_of old
-step_failed old new i r m e =
-    same_world _ _ _ _ _ _ (ap state_of m.interlocking) (ap marks m.lies)
-    (m.trains ∙ ap (λ (z : Train). with_train (trains_of (vec_items old.trains)) i z.up z.body) e ∙ with_same (trains_of (vec_items old.trains)) i)
-
-pub stays_moved : (old new : HeldWorld) (i : ℕ) (r : Train) → Moved old new i r → trains_inside (vec_items old.trains) ≡ true → all_inside r.body ≡ true → StaysInside old new
-stays_moved old new i r m h k = record { count = m.count; inside = m.inside h k }
-
-pub stays_noted : (p : Plan) (old mid new : HeldWorld) → StaysInside old mid → Noted p mid new → StaysInside old new
-stays_noted p old mid new s n =
-    record { count = ap (λ v. vec_len v) n.trains ∙ s.count; inside = ap (λ v. trains_inside (vec_items v)) n.trains ∙ s.inside }
-
 -- a train read from the world
 here : (w : HeldWorld) (i : ℕ) (b : HeldTrain) → i < vec_len w.trains → b ≡ get_or (vec_items w.trains) i b → train_of b ≡ trains_of (vec_items w.trains) i
 here w i b l e = train_here (vec_items w.trains) i (vec_len w.trains) b l w.trains.ok.0 e
 
--- an event that is done, trains staying in sections below 64
-abbrev pub Happened : Plan → HeldWorld → HeldWorld → Event → Type 0
-Happened p w v e = Told p (vec_len w.trains) (world_of w) (world_of v) e true × StaysInside w v
-
 -- one train written, and no more
-move_done : (p : Plan) (w : HeldWorld) (i : ℕ) (t : HeldTrain) (r : Train) (e : Event) (d : Bool) → i < vec_len w.trains → train_of t ≡ r →
+move_next : (p : Plan) (w : HeldWorld) (i : ℕ) (t : HeldTrain) (r : Train) (e : Event) → i < vec_len w.trains → train_of t ≡ r →
     state_after p (vec_len w.trains) (world_of w) e ≡ state_of w.interlocking → lies_after (world_of w) e ≡ marks w.lies →
-    trains_after p (world_of w) e ≡ with_train (trains_of (vec_items w.trains)) i r.up r.body →
-    d ≡ happens p (vec_len w.trains) (world_of w) e → d ≡ true → trains_inside (vec_items w.trains) ≡ true → all_inside r.body ≡ true → Happened p w (written w i t) e
-move_done p w i t r e d l f x y z g k s u =
-    let m = moved w i t r l f in (
-      told_done p (vec_len w.trains) (world_of w) (world_of (written w i t)) e d g k (step_moved p w (written w i t) i r e m x y z),
-      stays_moved w (written w i t) i r m s u,
-    )
+    trains_after p (world_of w) e ≡ with_train (trains_of (vec_items w.trains)) i r.up r.body → written w i t ≡ next p (vec_len w.trains) (world_of w) e
+move_next p w i t r e l f x y z = same_world _ _ _ _ _ _ (sym x) (sym y) (moved w i t r l f ∙ sym z)
 
 -- one train written, and what is occupied noted
-note_done : (p : Plan) (w v : HeldWorld) (i : ℕ) (t : HeldTrain) (r : Train) (e : Event) (d : Bool) → i < vec_len w.trains → train_of t ≡ r → Noted p (written w i t) v →
+note_next : (p : Plan) (w v : HeldWorld) (i : ℕ) (t : HeldTrain) (r : Train) (e : Event) → i < vec_len w.trains → train_of t ≡ r →
+    state_of v.interlocking ≡ notes p (state_of w.interlocking) (occupied (vec_len w.trains) (trains_of (set (vec_items w.trains) i t))) →
+    v.lies ≡ w.lies → vec_items v.trains ≡ set (vec_items w.trains) i t →
     state_after p (vec_len w.trains) (world_of w) e ≡ notes p (state_of w.interlocking) (occupied (vec_len w.trains) (trains_after p (world_of w) e)) →
     lies_after (world_of w) e ≡ marks w.lies → trains_after p (world_of w) e ≡ with_train (trains_of (vec_items w.trains)) i r.up r.body →
-    d ≡ happens p (vec_len w.trains) (world_of w) e → d ≡ true → trains_inside (vec_items w.trains) ≡ true → all_inside r.body ≡ true → Happened p w v e
-note_done p w v i t r e d l f n x y z g k s u =
-    let m = moved w i t r l f in (
-      told_done p (vec_len w.trains) (world_of w) (world_of v) e d g k (step_noted p w (written w i t) v i r e m n x y z),
-      stays_noted p w (written w i t) v (stays_moved w (written w i t) i r m s u) n,
-    )
+    world_of v ≡ next p (vec_len w.trains) (world_of w) e
+note_next p w v i t r e l f g m u x y z =
+    let k : trains_of (set (vec_items w.trains) i t) ≡ trains_after p (world_of w) e = moved w i t r l f ∙ sym z in
+    same_world _ _ _ _ _ _ (g ∙ ap (λ (ts : ℕ → Train). notes p (state_of w.interlocking) (occupied (vec_len w.trains) ts)) k ∙ sym x) (ap marks m ∙ sym y) (ap trains_of u ∙ k)
 
 -- a train written as it was, for want of memory
 pub move_failed : (w : HeldWorld) (i : ℕ) (b t : HeldTrain) → i < vec_len w.trains → b ≡ get_or (vec_items w.trains) i b → train_of t ≡ train_of b →
-    trains_inside (vec_items w.trains) ≡ true → (world_of (written w i t) ≡ world_of w) × StaysInside w (written w i t)
-move_failed w i b t l e f s =
-    let m = moved w i t (trains_of (vec_items w.trains) i) l (f ∙ here w i b l e) in (
-      step_failed w (written w i t) i (trains_of (vec_items w.trains) i) m refl,
-      stays_moved w (written w i t) i (trains_of (vec_items w.trains) i) m s (inside_at (vec_items w.trains) i s),
+    (written w i t ≡ world_of w) × (trains_inside (set (vec_items w.trains) i t) ≡ true)
+move_failed w i b t l e f =
+    let h = f ∙ here w i b l e in (
+      same_world _ _ _ _ _ _ refl refl (moved w i t (trains_of (vec_items w.trains) i) l h ∙ with_same (trains_of (vec_items w.trains)) i),
+      still_inside w i t (trains_of (vec_items w.trains) i) h (inside_of w i),
     )
 
 -- a train goes on
-abbrev farther : Plan → Positions → Train → Train
-farther p l r = record { up = r.up; body = beyond p l r.up (front r.body) ∷ r.body }
+abbrev farther : Plan → HeldWorld → ℕ → Train
+farther p w i = let r = trains_of (vec_items w.trains) i in record { up = r.up; body = beyond p (marks w.lies) r.up (front r.body) ∷ r.body }
 
-gone : (p : Plan) (l : Positions) (t s : Train) (r u : Train) (x : ℕ) → t ≡ r → s ≡ r → x ≡ beyond p l t.up (front t.body) → u ≡ record { up = s.up; body = x ∷ s.body } → u ≡ farther p l r
-gone p l t s r u x e f g h =
-    h ∙ ap (λ (y : ℕ). record { up = s.up; body = y ∷ s.body }) (g ∙ ap (λ (z : Train). beyond p l z.up (front z.body)) e)
-    ∙ ap (λ (z : Train). record { up = z.up; body = beyond p l r.up (front r.body) ∷ z.body }) f
+gone : (p : Plan) (w : HeldWorld) (i x : ℕ) (a b t : HeldTrain) → i < vec_len w.trains → a ≡ get_or (vec_items w.trains) i a → b ≡ get_or (vec_items w.trains) i b →
+    x ≡ beyond p (marks w.lies) a.up (front (vec_items a.body)) → train_of t ≡ record { up = b.up; body = x ∷ vec_items b.body } → train_of t ≡ farther p w i
+gone p w i x a b t l e f h k =
+    k ∙ ap (λ (y : ℕ). record { up = b.up; body = y ∷ vec_items b.body }) (h ∙ ap (λ (z : Train). beyond p (marks w.lies) z.up (front z.body)) (here w i a l e))
+    ∙ ap (λ (z : Train). record { up = z.up; body = beyond p (marks w.lies) (trains_of (vec_items w.trains) i).up (front (trains_of (vec_items w.trains) i).body) ∷ z.body }) (here w i b l f)
 
-went_on : (p : Plan) (w : HeldWorld) (i x : ℕ) (a b t : HeldTrain) → i < vec_len w.trains → a ≡ get_or (vec_items w.trains) i a → b ≡ get_or (vec_items w.trains) i b →
-    x ≡ beyond p (marks w.lies) a.up (front (vec_items a.body)) → train_of t ≡ record { up = b.up; body = x ∷ vec_items b.body } →
-    train_of t ≡ farther p (marks w.lies) (trains_of (vec_items w.trains) i)
-went_on p w i x a b t l e f h k =
-    gone p (marks w.lies) (train_of a) (train_of b) (trains_of (vec_items w.trains) i) (train_of t) x (here w i a l e) (here w i b l f) h k
-
-farther_inside : (p : Plan) (w : HeldWorld) (i : ℕ) → can p (vec_len w.trains) (world_of w) (Goes i) ≡ true → p.sections ≤ 64 → trains_inside (vec_items w.trains) ≡ true →
-    all_inside (farther p (marks w.lies) (trains_of (vec_items w.trains) i)).body ≡ true
-farther_inside p w i g q s = cons_inside _ _ (small_front p (vec_len w.trains) (world_of w) i g q) (inside_at (vec_items w.trains) i s)
-
-pub go_inside_still : (p : Plan) (w : HeldWorld) (i x : ℕ) (a b t : HeldTrain) → p.sections ≤ 64 → trains_inside (vec_items w.trains) ≡ true →
+go_inside_still : (p : Plan) (w : HeldWorld) (i x : ℕ) (a b t : HeldTrain) → p.sections ≤ 64 →
     can p (vec_len w.trains) (world_of w) (Goes i) ≡ true → a ≡ get_or (vec_items w.trains) i a → b ≡ get_or (vec_items w.trains) i b →
     x ≡ beyond p (marks w.lies) a.up (front (vec_items a.body)) → train_of t ≡ record { up = b.up; body = x ∷ vec_items b.body } →
-    trains_inside (vec_items (written w i t).trains) ≡ true
-go_inside_still p w i x a b t q s g e f h k =
-    inside_set (vec_items w.trains) _ i t (farther p (marks w.lies) (trains_of (vec_items w.trains) i)) refl
-    (went_on p w i x a b t (go_under p (vec_len w.trains) (world_of w) i g) e f h k) s (farther_inside p w i g q s)
+    trains_inside (set (vec_items w.trains) i t) ≡ true
+go_inside_still p w i x a b t q g e f h k =
+    still_inside w i t (farther p w i) (gone p w i x a b t (go_under p (vec_len w.trains) (world_of w) i g) e f h k)
+    (cons_inside _ _ (small_front p (vec_len w.trains) (world_of w) i g q) (inside_of w i))
 
-pub go_done : (p : Plan) (w v : HeldWorld) (i x : ℕ) (a b t : HeldTrain) (d : Bool) → p.sections ≤ 64 → trains_inside (vec_items w.trains) ≡ true →
-    d ≡ can p (vec_len w.trains) (world_of w) (Goes i) → d ≡ true → a ≡ get_or (vec_items w.trains) i a → b ≡ get_or (vec_items w.trains) i b →
-    x ≡ beyond p (marks w.lies) a.up (front (vec_items a.body)) → train_of t ≡ record { up = b.up; body = x ∷ vec_items b.body } → Noted p (written w i t) v →
-    Happened p w v (Goes i)
-unfolding happens state_after lies_after trains_after
-go_done p w v i x a b t d q s g j e f h k n =
-    let l = go_under p (vec_len w.trains) (world_of w) i (sym g ∙ j) in
-    note_done p w v i t (farther p (marks w.lies) (trains_of (vec_items w.trains) i)) (Goes i) d l (went_on p w i x a b t l e f h k) n refl refl refl g j s
-    (farther_inside p w i (sym g ∙ j) q s)
+-- or doesn't, for want of memory
+pub go_either_still : {E : Type 0} (p : Plan) (w : HeldWorld) (i x : ℕ) (a b t : HeldTrain) (r : Result (Unit {0}) E) → p.sections ≤ 64 →
+    can p (vec_len w.trains) (world_of w) (Goes i) ≡ true → a ≡ get_or (vec_items w.trains) i a → b ≡ get_or (vec_items w.trains) i b →
+    x ≡ beyond p (marks w.lies) a.up (front (vec_items a.body)) →
+    MatchResult r (λ _. train_of t ≡ record { up = b.up; body = x ∷ vec_items b.body }) (λ _. train_of t ≡ train_of b) → trains_inside (set (vec_items w.trains) i t) ≡ true
+go_either_still p w i x a b t (Ok u) q g e f h k = go_inside_still p w i x a b t q g e f h k
+go_either_still p w i x a b t (Err u) q g e f h k = (move_failed w i b t (go_under p (vec_len w.trains) (world_of w) i g) f k).1
+
+pub go_next : (p : Plan) (w v : HeldWorld) (i x : ℕ) (a b t : HeldTrain) → can p (vec_len w.trains) (world_of w) (Goes i) ≡ true → a ≡ get_or (vec_items w.trains) i a → b ≡ get_or (vec_items w.trains) i b →
+    x ≡ beyond p (marks w.lies) a.up (front (vec_items a.body)) → train_of t ≡ record { up = b.up; body = x ∷ vec_items b.body } →
+    state_of v.interlocking ≡ notes p (state_of w.interlocking) (occupied (vec_len w.trains) (trains_of (set (vec_items w.trains) i t))) →
+    v.lies ≡ w.lies → vec_items v.trains ≡ set (vec_items w.trains) i t → world_of v ≡ next p (vec_len w.trains) (world_of w) (Goes i)
+unfolding state_after lies_after trains_after
+go_next p w v i x a b t g e f h k n m u =
+    let l = go_under p (vec_len w.trains) (world_of w) i g in
+    note_next p w v i t (farther p w i) (Goes i) l (gone p w i x a b t l e f h k) n m u refl refl refl
 
 -- its end draws up
-drew : (t r u : Train) → t ≡ r → u ≡ record { up = t.up; body = without_last t.body } → u ≡ record { up = r.up; body = without_last r.body }
-drew t r u e h = h ∙ ap (λ (z : Train). record { up = z.up; body = without_last z.body }) e
+abbrev drawn_up : HeldWorld → ℕ → Train
+drawn_up w i = let r = trains_of (vec_items w.trains) i in record { up = r.up; body = without_last r.body }
 
-pub draw_inside_still : (p : Plan) (w : HeldWorld) (i : ℕ) (b t : HeldTrain) → trains_inside (vec_items w.trains) ≡ true → can p (vec_len w.trains) (world_of w) (Draws i) ≡ true →
-    b ≡ get_or (vec_items w.trains) i b → train_of t ≡ record { up = b.up; body = without_last (vec_items b.body) } → trains_inside (vec_items (written w i t).trains) ≡ true
-draw_inside_still p w i b t s g e k =
-    let l = draw_under p (vec_len w.trains) (world_of w) i g in
-    inside_set (vec_items w.trains) _ i t _ refl (drew (train_of b) (trains_of (vec_items w.trains) i) (train_of t) (here w i b l e) k) s
-    (cut_inside (trains_of (vec_items w.trains) i).body (inside_at (vec_items w.trains) i s))
+drew : (w : HeldWorld) (i : ℕ) (b t : HeldTrain) → i < vec_len w.trains → b ≡ get_or (vec_items w.trains) i b →
+    train_of t ≡ record { up = b.up; body = without_last (vec_items b.body) } → train_of t ≡ drawn_up w i
+drew w i b t l e k = k ∙ ap (λ (z : Train). record { up = z.up; body = without_last z.body }) (here w i b l e)
 
-pub draw_done : (p : Plan) (w v : HeldWorld) (i : ℕ) (b t : HeldTrain) (d : Bool) → trains_inside (vec_items w.trains) ≡ true →
-    d ≡ can p (vec_len w.trains) (world_of w) (Draws i) → d ≡ true → b ≡ get_or (vec_items w.trains) i b →
-    train_of t ≡ record { up = b.up; body = without_last (vec_items b.body) } → Noted p (written w i t) v → Happened p w v (Draws i)
-unfolding happens state_after lies_after trains_after
-draw_done p w v i b t d s g j e k n =
-    let l = draw_under p (vec_len w.trains) (world_of w) i (sym g ∙ j) in
-    note_done p w v i t _ (Draws i) d l (drew (train_of b) (trains_of (vec_items w.trains) i) (train_of t) (here w i b l e) k) n refl refl refl g j s
-    (cut_inside (trains_of (vec_items w.trains) i).body (inside_at (vec_items w.trains) i s))
+pub draw_inside_still : (w : HeldWorld) (i : ℕ) (b t : HeldTrain) → i < vec_len w.trains → b ≡ get_or (vec_items w.trains) i b →
+    train_of t ≡ record { up = b.up; body = without_last (vec_items b.body) } → trains_inside (set (vec_items w.trains) i t) ≡ true
+draw_inside_still w i b t l e k = still_inside w i t (drawn_up w i) (drew w i b t l e k) (cut_inside (trains_of (vec_items w.trains) i).body (inside_of w i))
+
+pub draw_next : (p : Plan) (w v : HeldWorld) (i : ℕ) (b t : HeldTrain) → i < vec_len w.trains → b ≡ get_or (vec_items w.trains) i b →
+    train_of t ≡ record { up = b.up; body = without_last (vec_items b.body) } →
+    state_of v.interlocking ≡ notes p (state_of w.interlocking) (occupied (vec_len w.trains) (trains_of (set (vec_items w.trains) i t))) →
+    v.lies ≡ w.lies → vec_items v.trains ≡ set (vec_items w.trains) i t → world_of v ≡ next p (vec_len w.trains) (world_of w) (Draws i)
+unfolding state_after lies_after trains_after
+draw_next p w v i b t l e k n m u = note_next p w v i t (drawn_up w i) (Draws i) l (drew w i b t l e k) n m u refl refl refl
 
 -- it turns round
-turned_round : (t r u : Train) → t ≡ r → u ≡ record { up = not t.up; body = reversed t.body } → u ≡ record { up = not r.up; body = reversed r.body }
-turned_round t r u e h = h ∙ ap (λ (z : Train). record { up = not z.up; body = reversed z.body }) e
+abbrev turned_round : HeldWorld → ℕ → Train
+turned_round w i = let r = trains_of (vec_items w.trains) i in record { up = not r.up; body = reversed r.body }
 
-pub reverse_done : (p : Plan) (w : HeldWorld) (i : ℕ) (b t : HeldTrain) (d : Bool) → trains_inside (vec_items w.trains) ≡ true →
-    d ≡ can p (vec_len w.trains) (world_of w) (Reverses i) → d ≡ true → b ≡ get_or (vec_items w.trains) i b →
-    train_of t ≡ record { up = not b.up; body = reversed (vec_items b.body) } → Happened p w (written w i t) (Reverses i)
-unfolding happens state_after lies_after trains_after
-reverse_done p w i b t d s g j e k =
-    let l = reverse_under p (vec_len w.trains) (world_of w) i (sym g ∙ j) in
-    move_done p w i t _ (Reverses i) d l (turned_round (train_of b) (trains_of (vec_items w.trains) i) (train_of t) (here w i b l e) k) refl refl refl g j s
-    (reversed_inside (trains_of (vec_items w.trains) i).body (inside_at (vec_items w.trains) i s))
+pub reverse_done : (w : HeldWorld) (i : ℕ) (b t : HeldTrain) → i < vec_len w.trains → b ≡ get_or (vec_items w.trains) i b →
+    train_of t ≡ record { up = not b.up; body = reversed (vec_items b.body) } →
+    ((p : Plan) → written w i t ≡ next p (vec_len w.trains) (world_of w) (Reverses i)) × (trains_inside (set (vec_items w.trains) i t) ≡ true)
+unfolding state_after lies_after trains_after
+reverse_done w i b t l e k =
+    let h : train_of t ≡ turned_round w i = k ∙ ap (λ (z : Train). record { up = not z.up; body = reversed z.body }) (here w i b l e) in (
+      λ p. move_next p w i t (turned_round w i) (Reverses i) l h refl refl refl,
+      still_inside w i t (turned_round w i) h (reversed_inside (trains_of (vec_items w.trains) i).body (inside_of w i)),
+    )
 
 -- it comes in
-came : (up : Bool) (x : ℕ) (t r u : Train) → t ≡ r → r.body ≡ [] → u ≡ record { up = up; body = t.body ++ x ∷ [] } → u ≡ record { up = up; body = x ∷ [] }
-came up x t r u e n h = h ∙ ap (λ (z : List ℕ). record { up = up; body = z ++ x ∷ [] }) (ap (λ (z : Train). z.body) e ∙ n)
+pub come_done : (w : HeldWorld) (i : ℕ) (up : Bool) (x : ℕ) (b t : HeldTrain) → i < vec_len w.trains → empty (trains_of (vec_items w.trains) i).body ≡ true → x < 64 →
+    b ≡ get_or (vec_items w.trains) i b → train_of t ≡ record { up = up; body = vec_items b.body ++ x ∷ [] } →
+    ((p : Plan) → written w i t ≡ next p (vec_len w.trains) (world_of w) (Comes i up x)) × (trains_inside (set (vec_items w.trains) i t) ≡ true)
+unfolding state_after lies_after trains_after
+come_done w i up x b t l z q e k =
+    let n = ap (λ (r : Train). r.body) (here w i b l e) ∙ empty_nil (trains_of (vec_items w.trains) i).body z in
+    let h : train_of t ≡ record { up = up; body = x ∷ [] } = k ∙ ap (λ (ys : List ℕ). record { up = up; body = ys ++ x ∷ [] }) n in (
+      λ p. move_next p w i t (record { up = up; body = x ∷ [] }) (Comes i up x) l h refl refl refl,
+      still_inside w i t (record { up = up; body = x ∷ [] }) h (cons_inside x [] q none_inside),
+    )
 
-pub come_done : (p : Plan) (w : HeldWorld) (i : ℕ) (up : Bool) (x : ℕ) (b t : HeldTrain) (d : Bool) → p.sections ≤ 64 → trains_inside (vec_items w.trains) ≡ true →
-    d ≡ can p (vec_len w.trains) (world_of w) (Comes i up x) → d ≡ true → b ≡ get_or (vec_items w.trains) i b →
-    train_of t ≡ record { up = up; body = vec_items b.body ++ x ∷ [] } → Happened p w (written w i t) (Comes i up x)
-unfolding happens state_after lies_after trains_after
-come_done p w i up x b t d q s g j e k =
-    let l = come_under p (vec_len w.trains) (world_of w) i up x (sym g ∙ j) in
-    let z = empty_nil (trains_of (vec_items w.trains) i).body (come_nowhere p (vec_len w.trains) (world_of w) i up x (sym g ∙ j)) in
-    move_done p w i t (record { up = up; body = x ∷ [] }) (Comes i up x) d l (came up x (train_of b) (trains_of (vec_items w.trains) i) (train_of t) (here w i b l e) z k) refl refl refl g j s
-    (cons_inside x [] (small_section p (vec_len w.trains) (world_of w) i up x (sym g ∙ j) q) none_inside)
+-- or doesn't, for want of memory
+pub come_either : {E : Type 0} (w : HeldWorld) (i : ℕ) (up : Bool) (x : ℕ) (b t : HeldTrain) (r : Result (Unit {0}) E) → i < vec_len w.trains → empty (trains_of (vec_items w.trains) i).body ≡ true → x < 64 →
+    b ≡ get_or (vec_items w.trains) i b → MatchResult r (λ _. train_of t ≡ record { up = up; body = vec_items b.body ++ x ∷ [] }) (λ _. train_of t ≡ train_of b) →
+    MatchResult r (λ _. (p : Plan) → written w i t ≡ next p (vec_len w.trains) (world_of w) (Comes i up x)) (λ _. written w i t ≡ world_of w) × (trains_inside (set (vec_items w.trains) i t) ≡ true)
+come_either w i up x b t (Ok u) l z q e k = come_done w i up x b t l z q e k
+come_either w i up x b t (Err u) l z q e k = move_failed w i b t l e k
 
 -- it leaves
-went : (t r u : Train) → t ≡ r → u ≡ record { up = t.up; body = [] } → u ≡ record { up = r.up; body = [] }
-went t r u e h = h ∙ ap (λ (z : Train). record { up = z.up; body = [] }) e
+abbrev left : HeldWorld → ℕ → Train
+left w i = record { up = (trains_of (vec_items w.trains) i).up; body = [] }
 
-pub leave_done : (p : Plan) (w : HeldWorld) (i : ℕ) (b t : HeldTrain) (d : Bool) → trains_inside (vec_items w.trains) ≡ true →
-    d ≡ can p (vec_len w.trains) (world_of w) (Leaves i) → d ≡ true → b ≡ get_or (vec_items w.trains) i b →
-    train_of t ≡ record { up = b.up; body = [] } → Happened p w (written w i t) (Leaves i)
-unfolding happens state_after lies_after trains_after
-leave_done p w i b t d s g j e k =
-    let l = leave_under p (vec_len w.trains) (world_of w) i (sym g ∙ j) in
-    move_done p w i t _ (Leaves i) d l (went (train_of b) (trains_of (vec_items w.trains) i) (train_of t) (here w i b l e) k) refl refl refl g j s none_inside
+pub leave_done : (w : HeldWorld) (i : ℕ) (b t : HeldTrain) → i < vec_len w.trains → b ≡ get_or (vec_items w.trains) i b → train_of t ≡ record { up = b.up; body = [] } →
+    ((p : Plan) → written w i t ≡ next p (vec_len w.trains) (world_of w) (Leaves i)) × (trains_inside (set (vec_items w.trains) i t) ≡ true)
+unfolding state_after lies_after trains_after
+leave_done w i b t l e k =
+    let h : train_of t ≡ left w i = k ∙ ap (λ (z : Train). record { up = z.up; body = [] }) (here w i b l e) in (
+      λ p. move_next p w i t (left w i) (Leaves i) l h refl refl refl,
+      still_inside w i t (left w i) h none_inside,
+    )
 
 -- a point that turned
 pub turned_marks : (bs : List Bool) (q : ℕ) (b : Bool) (f : Positions) → q < length bs → b ≡ f q → marks (set bs q b) ≡ (λ k. pick (eqb k q) (f k) (marks bs k))
@@ -285,37 +244,28 @@ turned_marks bs q b f l e = fun_ext (λ k. go k (eqb k q) refl)
         ap (λ (z : ℕ). get_or (set bs q b) z false) s ∙ get_or-set_same bs q b false l ∙ e ∙ ap f (sym s)
     go k false h = get_or-set_other bs q k b false (eqb-false k q h)
 
-pub step_turned : (p : Plan) (n : ℕ) (old new : HeldWorld) (q : ℕ) → new.interlocking ≡ old.interlocking → new.trains ≡ old.trains →
-    marks new.lies ≡ (λ k. pick (eqb k q) ((state_of old.interlocking).wanted k) (marks old.lies k)) → world_of new ≡ next p n (world_of old) (Turns q)
+pub turn_done : (p : Plan) (w : HeldWorld) (q : ℕ) (b : Bool) → q < length w.lies → b ≡ (state_of w.interlocking).wanted q →
+    ◌≡◌ {A = World} (record { interlocking = state_of w.interlocking; lies = marks (set w.lies q b); trains = trains_of (vec_items w.trains) }) (next p (vec_len w.trains) (world_of w) (Turns q))
 unfolding state_after lies_after trains_after
-step_turned p n old new q a b d = same_world _ _ _ _ _ _ (ap state_of a) d (ap (λ v. trains_of (vec_items v)) b)
+turn_done p w q b l e = same_world _ _ _ _ _ _ refl (turned_marks w.lies q b (state_of w.interlocking).wanted l e) refl
 
--- a request
-pub number_of_request : (a : Request) → request_of (kind_of a) (which_of a) ≡ a
-number_of_request (Ask r) = refl
-number_of_request (Clear r) = refl
-number_of_request (Back r) = refl
-number_of_request (Free x) = refl
-number_of_request Tick = refl
+-- what is occupied is all seen
+pub sees : (w : HeldWorld) (s : Occupancy) → s ≡ within (occupied_in w) → s ≡ occupied_in w
+sees w s e = e ∙ seen_all (vec_items w.trains) (vec_len w.trains) w.inside
 
-pub same_request : (k n : ℕ) (a : Request) → k ≡ kind_of a → n ≡ which_of a → request_of k n ≡ a
-same_request k n a e f = ap (λ (z : ℕ). request_of z n) e ∙ ap (request_of (kind_of a)) f ∙ number_of_request a
-
-pub told_asked : (p : Plan) (n : ℕ) (w v : HeldWorld) (a b : Request) (s : Occupancy) (left : Interlocking) (r : Answer) →
-    Says p w.interlocking s (marks w.lies) b left r → b ≡ a → s ≡ occupied n (trains_of (vec_items w.trains)) →
-    v.interlocking ≡ left → v.lies ≡ w.lies → v.trains ≡ w.trains → Told p n (world_of w) (world_of v) (Asked a) r.done
+pub told_asked : (p : Plan) (w : HeldWorld) (a b : Request) (s : Occupancy) (left : Interlocking) (r : Answer) →
+    Says p w.interlocking s (marks w.lies) b left r → b ≡ a → s ≡ occupied_in w →
+    Told p (vec_len w.trains) (world_of w) (record { interlocking = state_of left; lies = marks w.lies; trains = trains_of (vec_items w.trains) }) (Asked a) r.done
 unfolding happens state_after lies_after trains_after
-told_asked p n w v a b s left r h e f x y z =
-    let d : r.done ≡ does p (state_of w.interlocking) (occupied n (trains_of (vec_items w.trains))) (marks w.lies) a =
-    h.done_is ∙ ap (λ (q : Occupancy). does p (state_of w.interlocking) q (marks w.lies) b) f ∙ ap (does p (state_of w.interlocking) (occupied n (trains_of (vec_items w.trains))) (marks w.lies)) e
+told_asked p w a b s left r h e f =
+    let d : r.done ≡ does p (state_of w.interlocking) (occupied_in w) (marks w.lies) a =
+    h.done_is ∙ ap (λ (q : Occupancy). does p (state_of w.interlocking) q (marks w.lies) b) f ∙ ap (does p (state_of w.interlocking) (occupied_in w) (marks w.lies)) e
     in
     record {
       told = d;
       done = λ _. same_world _ _ _ _ _ _
-          (ap state_of x ∙ h.state ∙ ap (λ (q : Occupancy). acts p (state_of w.interlocking) q (marks w.lies) b) f
-          ∙ ap (acts p (state_of w.interlocking) (occupied n (trains_of (vec_items w.trains))) (marks w.lies)) e)
-          (ap marks y) (ap (λ u. trains_of (vec_items u)) z);
-      not_done = λ k. same_world _ _ _ _ _ _ (ap state_of (x ∙ h.unchanged (sym h.done_is ∙ k))) (ap marks y) (ap (λ u. trains_of (vec_items u)) z);
+          (h.state ∙ ap (λ (q : Occupancy). acts p (state_of w.interlocking) q (marks w.lies) b) f ∙ ap (acts p (state_of w.interlocking) (occupied_in w) (marks w.lies)) e) refl refl;
+      not_done = λ k. same_world _ _ _ _ _ _ (ap state_of (h.unchanged (sym h.done_is ∙ k))) refl refl;
     }
 
 pub happens_can : (p : Plan) (n : ℕ) (w : World) (e : Event) → happens p n w e ≡ true → can p n w e ≡ true
@@ -337,3 +287,18 @@ happens_else p n w (Draws i) h = refl
 happens_else p n w (Reverses i) h = refl
 happens_else p n w (Comes i up x) h = refl
 happens_else p n w (Leaves i) h = refl
+
+-- what can't happen is not done
+pub told_cannot : (p : Plan) (n : ℕ) (w : World) (e : Event) (b : Bool) → b ≡ can p n w e → b ≡ false → Told p n w w e false
+told_cannot p n w e b h f = told_not p n w e (happens p n w e) refl (go (happens p n w e) refl)
+  where
+    go : (d : Bool) → happens p n w e ≡ d → happens p n w e ≡ false
+    go true k = let c = happens_can p n w e k in absurd (grind arith)
+    go false k = k
+
+-- what can, of an event by its variant
+pub can_at : (p : Plan) (n : ℕ) (w : World) (e f : Event) (b : Bool) → e ≡ f → b ≡ can p n w e → b ≡ true → can p n w f ≡ true
+can_at p n w e f b s g j = sym (g ∙ ap (can p n w) s) ∙ j
+
+pub told_next : (p : Plan) (n : ℕ) (w v : World) (e f : Event) (b : Bool) → e ≡ f → b ≡ can p n w e → b ≡ true → happens p n w f ≡ can p n w f → v ≡ next p n w f → Told p n w v e true
+told_next p n w v e f b s g j h k = subst (λ (z : Event). Told p n w v z true) (sym s) (told_done p n w v f b (g ∙ ap (can p n w) s ∙ sym h) j k)

@@ -1,5 +1,5 @@
 // A station from its start, one event after the other.
-ghost use Rattle.std.specs.Prelude.{◌≡◌, min, IfOk, MatchResult};
+ghost use Rattle.std.specs.Prelude.{◌≡◌, IfOk, MatchResult};
 ghost use Rattle.trains.specs.Held.{trains_of, within};
 ghost use Rattle.model.specs.Held.{occupied_in};
 ghost use Rattle.model.specs.Ran.{Ran};
@@ -84,30 +84,21 @@ impl<'a> Station<'a> {
     pub fn goes_up(&self, i: usize) -> bool
         ensures { result ≡ (trains_of self.now.world.trains.items i).up }
     {
-        if i < 16 {
-            self.world.trains[i].goes_up()
-        } else {
-            true
-        }
+        self.world
+            .trains
+            .get(i)
+            .map_or(true, |train| train.goes_up())
     }
 
     // The sections of a train, its front first.
     pub fn sections_of(&self, i: usize) -> &[u16]
         ensures { result.now ≡ (trains_of self.now.world.trains.items i).body }
     {
-        if i < 16 {
-            self.world.trains[i].sections()
-        } else {
-            &[]
-        }
+        self.world
+            .trains
+            .get(i)
+            .map_or(&[], |train| train.sections())
     }
-}
-
-// How many events are played.
-fn allowed(budget: usize, events: usize) -> usize
-    ensures { result ≡ min budget events }
-{
-    budget.min(events)
 }
 
 // Plays so many of the events as the budget allows, from the empty station.
@@ -120,11 +111,10 @@ pub fn run<'a>(
 ) -> Result<Outcome<'a>, AllocError>
     ensures { IfOk result (λ done. (station_plan done.station ≡ plan_of plan.entry) × Ran (plan_of plan.entry) (marks lies) events.now budget done.answers.items (station_world done.station)) }
 {
-    let n = allowed(budget, events.len());
     let mut station = Station::new(heap, plan, lies)?;
     let mut answers = Vec::new(heap);
-    for i in 0..n {
-        let done = station.step(events[i])?;
+    for event in events.iter().take(budget) {
+        let done = station.step(*event)?;
         answers.push(done)?;
     }
     Ok(Outcome { station, answers })

@@ -1,7 +1,4 @@
-// A station: its plan, and a world of 16 trains in sections below 64.
-ghost use Rattle.std.specs.Prelude.{◌≡◌, true, vec_len};
-ghost use Rattle.trains.specs.Held.{trains_inside};
-
+// A station: its plan and its world.
 use crate::world::World;
 use plan::view::Plan;
 
@@ -9,6 +6,4 @@ use plan::view::Plan;
 pub struct Station<'a> {
     pub(crate) plan: Plan<'a>,
     pub(crate) world: World,
-    ghost count: { vec_len world.trains ≡ 16 },
-    ghost inside: { trains_inside world.trains.items ≡ true },
 }

@@ -8,7 +8,8 @@ use Rattle.interlocking.specs.declared.Request.TheVariants.{Free}
 use Rattle.model.specs.World.{Train, occupied}
 use Rattle.safety.specs.Safe.{OnRoute, Kept, Books, Unmarked, Covers, Sure}
 use Rattle.safety.proofs.Tests.{clash, either_way}
-use Rattle.safety.proofs.Lists.{among_at, among_place, once_head, once_tail, once_same, last_at}
+use Rattle.plan.proofs.Walks.{last_at}
+use Rattle.safety.proofs.Lists.{among_at, among_place, once_head, once_tail, once_same}
 use Rattle.safety.proofs.Stages.{used_only}
 use Rattle.safety.proofs.Carry.{route_moves, run_moves}
 

@@ -10,7 +10,8 @@ use Rattle.model.specs.declared.Event.TheVariants.{Goes}
 use Rattle.safety.specs.Promise.{Hangs, in_more, Open}
 use Rattle.safety.specs.Safe.{is_waiting, Rest, Mine, OnRoute, Ahead, at_signal, at_end, on_route, Kept, Run, Sure, Safe}
 use Rattle.safety.proofs.Tests.{clash, decide, either_way, same_truth, untrue}
-use Rattle.safety.proofs.Lists.{among_at, front_among, front_of, split_front, once_tail, once_same, last_at}
+use Rattle.plan.proofs.Walks.{last_at}
+use Rattle.safety.proofs.Lists.{among_at, front_among, front_of, split_front, once_tail, once_same}
 use Rattle.safety.proofs.Occupied.{occupied_some, occupied_at, each_train}
 use Rattle.safety.proofs.Needs.{met_same}
 use Rattle.safety.proofs.Stages.{cleared_busy}

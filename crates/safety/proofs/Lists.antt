@@ -71,13 +71,6 @@ pub some_long : (xs : List ℕ) → (xs ≡ [] → ⊥) → 0 < length xs
 some_long [] h = absurd (h refl)
 some_long (x ∷ xs) h = omega arith
 
-pub last_at : (d : ℕ) (xs : List ℕ) (k : ℕ) → suc k ≡ length xs → get_or xs k 0 ≡ last_of d xs
-unfolding last_of
-last_at d [] k h = omega arith
-last_at d (x ∷ []) zero h = refl
-last_at d (x ∷ (y ∷ ys)) zero h = omega arith
-last_at d (x ∷ xs) (suc k) h = last_at x xs k (omega arith)
-
 pub front_of : (xs : List ℕ) (y : ℕ) (ys : List ℕ) → xs ≡ y ∷ ys → get_or xs 0 0 ≡ y
 front_of xs y ys e = ap (λ zs. get_or zs 0 0) e
 

@@ -1,5 +1,5 @@
 -- Two paths gone through side by side, and the tests by which two routes are told to be strangers.
-use Rattle.std.proofs.Common.{◌≡◌, ℕ, ◌+◌, ◌<◌, ◌≤◌, Bool, true, false, ◌&&◌, ◌||◌, ◌⊎◌, List, [], ◌∷◌, length, get_or, sym, refl, ◌∙◌, inl, inr, arith, below_more}
+use Rattle.std.proofs.Common.{◌≡◌, ℕ, ◌+◌, ◌<◌, ◌≤◌, Bool, true, false, ◌&&◌, ◌||◌, ◌⊎◌, List, [], ◌∷◌, ltb, min, length, get_or, sym, refl, ◌∙◌, subst, inl, inr, arith, below_more, ltb-true}
 use Rattle.plan.specs.Plan.{Plan, Route, route, among, needed}
 use Rattle.plan.specs.declared.Need.{Need}
 use Rattle.safety.specs.Promise.{Strangers}
@@ -22,23 +22,41 @@ clear_all (x ∷ xs) ys f = let here = f x (among_head x xs) in let ih = clear_a
 abbrev pub Passed : List ℕ → List ℕ → ℕ → Type 0
 Passed xs ys i = (k : ℕ) → k < i → (among (get_or xs k 0) ys ≡ false) × (among (get_or ys k 0) xs ≡ false)
 
-pub passed_more : (xs ys : List ℕ) (i : ℕ) (b : Bool) → Passed xs ys i → b ≡ (among (get_or xs i 0) ys || among (get_or ys i 0) xs) → b ≡ false → Passed xs ys (i + 1)
-passed_more xs ys i b p e f = below_more (λ k. (among (get_or xs k 0) ys ≡ false) × (among (get_or ys k 0) xs ≡ false)) i p (grind arith, grind arith)
+-- the sections at one place of both
+pub record Pair (xs ys : List ℕ) (i x y : ℕ) : Type 0 where
+  pub first : i < length xs
+  pub second : i < length ys
+  pub x_is : x ≡ get_or xs i 0
+  pub y_is : y ≡ get_or ys i 0
+
+pub passed_more : (xs ys : List ℕ) (i j x y : ℕ) (b : Bool) → Pair xs ys i x y → Passed xs ys i → b ≡ (among x ys || among y xs) → b ≡ false → j ≡ i + 1 → Passed xs ys j
+passed_more xs ys i j x y b t p e f g =
+    let n : among x ys ≡ false = grind arith in
+    let m : among y xs ≡ false = grind arith in
+    subst (λ (k : ℕ). Passed xs ys k) (sym g)
+    (below_more (λ k. (among (get_or xs k 0) ys ≡ false) × (among (get_or ys k 0) xs ≡ false)) i p (rw (← t.x_is) n, rw (← t.y_is) m))
+
+ends : (n m i : ℕ) → i ≡ min n m → (n ≤ i) ⊎ (m ≤ i)
+ends n m i e = go (ltb n m) refl
+  where
+    go : (b : Bool) → ltb n m ≡ b → (n ≤ i) ⊎ (m ≤ i)
+    go true q = let l : n < m = ltb-true n m q in inl (omega arith)
+    go false q = let l : m ≤ n = grind arith in inr (omega arith)
 
 -- the shorter was gone through: a section in both would have been found, wherever the other path has it
-pub passed_all : (xs ys : List ℕ) (i : ℕ) → (length xs ≤ i) ⊎ (length ys ≤ i) → Passed xs ys i → true ≡ clear_of xs ys
-passed_all xs ys i done p = sym (clear_all xs ys (λ x a. untrue (among x ys) (λ b. go done x a b)))
+pub passed_all : (xs ys : List ℕ) (i : ℕ) → i ≡ min (length xs) (length ys) → Passed xs ys i → true ≡ clear_of xs ys
+passed_all xs ys i done p = sym (clear_all xs ys (λ x a. untrue (among x ys) (λ b. go (ends (length xs) (length ys) i done) x a b)))
   where
     go : (length xs ≤ i) ⊎ (length ys ≤ i) → (x : ℕ) → among x xs ≡ true → among x ys ≡ true → ⊥
     go (inl l) x a b = let at = among_place x xs a in clash (among x ys) b (rw (← at.2) (p at.0 (omega (arith, at.1))).0)
     go (inr l) x a b = let at = among_place x ys b in clash (among x xs) a (rw (← at.2) (p at.0 (omega (arith, at.1))).1)
 
 -- one of two sections at a place is in the other path
-pub passed_stop : (xs ys : List ℕ) (i : ℕ) (b : Bool) → i < length xs → i < length ys → b ≡ (among (get_or xs i 0) ys || among (get_or ys i 0) xs) → b ≡ true → false ≡ clear_of xs ys
-passed_stop xs ys i b l m e f = sym (untrue (clear_of xs ys) (λ c.
-    let one = clear_says xs ys c (get_or xs i 0) (among_at xs i l) in
-    let two = clear_says xs ys c (get_or ys i 0) in
-    let in_own = among_at ys i m in grind arith))
+pub passed_stop : (xs ys : List ℕ) (i x y : ℕ) (b : Bool) → Pair xs ys i x y → b ≡ (among x ys || among y xs) → b ≡ true → false ≡ clear_of xs ys
+passed_stop xs ys i x y b t e f = sym (untrue (clear_of xs ys) (λ c.
+    let one : among x ys ≡ false = clear_says xs ys c x (rw t.x_is (among_at xs i t.first)) in
+    let two = clear_says xs ys c y in
+    let in_own : among y ys ≡ true = rw t.y_is (among_at ys i t.second) in grind arith))
 
 -- POINTS
 pub unrelated_says : (p : Plan) (r : Route) (ns : List Need) → all_unrelated p r ns ≡ true → (q : ℕ) → needed q ns ≡ true → (needed q r.needs ≡ false) × (among (p.place q) r.path ≡ false)

@@ -29,12 +29,10 @@ pub fn strangers(plan: Plan<'_>, a: usize, b: usize) -> bool
 fn paths_apart(xs: &[u16], ys: &[u16]) -> bool
     ensures { result ≡ clear_of xs.now ys.now }
 {
-    let mut i = 0;
-    while i < xs.len() && i < ys.len() {
-        if crosses(xs[i], ys, ys[i], xs) {
+    for (x, y) in xs.iter().zip(ys) {
+        if crosses(*x, ys, *y, xs) {
             return false;
         }
-        i += 1;
     }
     true
 }
@@ -50,13 +48,7 @@ fn crosses(x: u16, ys: &[u16], y: u16, xs: &[u16]) -> bool
 fn points_apart(plan: Plan<'_>, route: Route<'_>, other: Route<'_>) -> bool
     ensures { result ≡ all_unrelated (plan_of plan.entry) (route_of other.entry) (route_of route.entry).needs }
 {
-    let n = route.needs();
-    for i in 0..n {
-        if !unrelated(plan, other, route.need(i).point) {
-            return false;
-        }
-    }
-    true
+    route.needs().all(|need| unrelated(plan, other, need.point))
 }
 
 // Is a point neither needed by a route nor in its path?

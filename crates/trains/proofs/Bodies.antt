@@ -1,16 +1,18 @@
 -- The sections of one train, as a list and by their places.
-use Rattle.std.proofs.Common.{◌≡◌, ℕ, zero, suc, ◌-◌, ◌<◌, ◌≤◌, Bool, true, false, eqb, ltb, List, [], ◌∷◌, ◌++◌, reverse, length, get_or, take, sym, refl, ap, ◌∙◌, arith}
+use Rattle.std.proofs.Common.{◌≡◌, ℕ, zero, suc, ◌-◌, ◌<◌, ◌≤◌, Bool, true, false, eqb, ltb, List, [], ◌∷◌, ◌++◌, reverse, length, take, sym, refl, ap, ◌∙◌, arith}
 use mathlib.Core.List.{reverse-cons}
-use Rattle.std.proofs.lemmas.List.{get_or_read}
+use Rattle.std.specs.List.{slice_get}
+use Rattle.std.specs.Option.{unwrap_or}
+use Rattle.std.proofs.lemmas.Option.{unwrap_or-slice_get}
 use Rattle.plan.specs.Plan.{among, last_of}
 use Rattle.plan.proofs.Walks.{last_is, last_nil}
 use Rattle.trains.specs.Trains.{Train, empty, front, reversed, without_last}
 use Rattle.trains.specs.Held.{all_inside}
 
-pub empty_is : (xs : List ℕ) (n m : ℕ) → n ≡ m → m ≡ length xs → eqb n 0 ≡ empty xs
+pub empty_is : (xs : List ℕ) → eqb (length xs) 0 ≡ empty xs
 unfolding empty
-empty_is [] n m e f = grind arith
-empty_is (x ∷ xs) n m e f = grind arith
+empty_is [] = refl
+empty_is (x ∷ xs) = grind arith
 
 pub empty_nil : (xs : List ℕ) → empty xs ≡ true → xs ≡ []
 unfolding empty
@@ -23,24 +25,14 @@ short_is [] n m e f = grind arith
 short_is (x ∷ []) n m e f = grind arith
 short_is (x ∷ (y ∷ ys)) n m e f = grind arith
 
-pub front_some : (xs : List ℕ) (n m z : ℕ) → n ≡ m → m ≡ length xs → 0 < n → z ≡ get_or xs 0 z → z ≡ front xs
+pub front_is : (xs : List ℕ) → unwrap_or (slice_get xs 0) 0 ≡ front xs
 unfolding front
-front_some [] n m z e f l h = absurd (omega arith)
-front_some (x ∷ xs) n m z e f l h = h
+front_is [] = refl
+front_is (x ∷ xs) = refl
 
-pub front_none : (xs : List ℕ) (n m : ℕ) → n ≡ m → m ≡ length xs → n ≤ 0 → 0 ≡ front xs
-unfolding front
-front_none [] n m e f l = refl
-front_none (x ∷ xs) n m e f l = absurd (omega arith)
-
-pub back_some : (xs : List ℕ) (n m z : ℕ) → n ≡ m → m ≡ length xs → 0 < n → z ≡ get_or xs (n - 1) z → z ≡ last_of 0 xs
-back_some xs n m z e f l h =
-    let k : n ≡ length xs = e ∙ f in
-    let r = get_or_read xs (n - 1) z (omega arith) h 0 in
-    r ∙ ap (λ (j : ℕ). get_or xs (j - 1) 0) k ∙ last_is xs (omega arith)
-
-pub back_none : (xs : List ℕ) (n m : ℕ) → n ≡ m → m ≡ length xs → n ≤ 0 → 0 ≡ last_of 0 xs
-back_none xs n m e f l = sym (last_nil xs (omega arith))
+pub back_is : (xs : List ℕ) → unwrap_or (slice_get xs (length xs - 1)) 0 ≡ last_of 0 xs
+back_is [] = sym (last_nil [] (omega arith))
+back_is (x ∷ xs) = unwrap_or-slice_get (x ∷ xs) (length (x ∷ xs) - 1) 0 ∙ last_is (x ∷ xs) (omega arith)
 
 cut : (xs : List ℕ) (k : ℕ) → suc k ≡ length xs → take k xs ≡ without_last xs
 unfolding without_last

@@ -1,16 +1,17 @@
 -- What lies before a train, and which sections are marked.
-use Rattle.std.proofs.Common.{◌≡◌, ℕ, zero, suc, ◌+◌, ◌<◌, ◌≤◌, Bool, true, false, ◌&&◌, ◌||◌, eqb, ltb, List, [], ◌∷◌, length, get_or, set, replicate, sym, refl, ap, ◌∙◌, add-one, arith, eqb-true}
+use Rattle.std.proofs.Common.{◌≡◌, ℕ, zero, suc, ◌+◌, ◌<◌, ◌≤◌, Bool, true, false, ◌&&◌, ◌||◌, eqb, ltb, List, [], ◌∷◌, length, get_or, set, replicate, MatchBool, sym, refl, ap, ◌∙◌, add-one, arith, eqb-true}
 use mathlib.Core.Path.{fun_ext}
 use borrow.Author.Tests.{eqb-false}
 use Rattle.std.proofs.lemmas.List.{get_or_past, get_or-set_same, get_or-set_other, length-set}
-use Rattle.plan.specs.Plan.{pick, Plan, End, Route, Positions, beyond, route, among, marks}
+use Rattle.std.specs.List.{AllWithin, HoldsAt, range_with_len}
+use Rattle.std.proofs.lemmas.List.FromFn.{get_or-range_with_len, length-range_with_len}
+use Rattle.plan.specs.Plan.{pick, Plan, End, Positions, beyond, route, among, marks}
 use Rattle.plan.specs.View.{end_of, plan_of}
 use Rattle.plan.specs.Numbers.{plan_in}
 use Rattle.plan.specs.declared.End.{End as HeldEnd}
 use Rattle.plan.specs.declared.view.Plan.{Plan as HeldPlan}
 use Rattle.plan.proofs.Formed.{formed}
 use Rattle.interlocking.specs.State.{State}
-use Rattle.interlocking.specs.declared.Stage.{Stage}
 use Rattle.trains.specs.Trains.{Train, occupied, open_here}
 use Rattle.trains.specs.Held.{ahead, opens, mark_all, within}
 
@@ -28,20 +29,43 @@ unfolding beyond
 beyond_is p t up x e left r a b d =
     d ∙ ap (ahead e) b ∙ ap (λ (z : End). pick z.moves (pick (t z.point) z.on_left z.on_right) z.on_left) a
 
-pub open_none : (p : Plan) (h : State) (up : Bool) (x : ℕ) → false ≡ open_here p h up x 0
-unfolding open_here
-open_none p h up x = refl
+-- is the route of this number open to a train at x
+abbrev pub open_to : Plan → State → Bool → ℕ → ℕ → Bool
+open_to p h up x r = opens (h.stage r) (route p r) up x
 
-pub open_more : (p : Plan) (h : State) (up : Bool) (x r : ℕ) (g : Stage) (way : Route) (b found : Bool) →
-    g ≡ h.stage r → way ≡ route p r → b ≡ opens g way up x → found ≡ open_here p h up x r → b || found ≡ open_here p h up x (r + 1)
+pub some_open : (p : Plan) (h : State) (up : Bool) (x n r : ℕ) → r < n → open_to p h up x r ≡ true → true ≡ open_here p h up x n
 unfolding open_here
-open_more p h up x r g way b found e f k m =
-    rw add-one (ap (λ (z : Bool). z || found) (k ∙ ap (λ (s : Stage). opens s way up x) e ∙ ap (λ (w : Route). opens (h.stage r) w up x) f)
-    ∙ ap (λ (z : Bool). opens (h.stage r) (route p r) up x || z) m)
+some_open p h up x zero r l e = absurd (omega arith)
+some_open p h up x (suc n) r l e = go (eqb r n) refl (λ k. some_open p h up x n r k e)
+  where
+    go : (b : Bool) → eqb r n ≡ b → (r < n → true ≡ open_here p h up x n) → true ≡ open_to p h up x n || open_here p h up x n
+    go true q f = let s = ap (open_to p h up x) (eqb-true r n q) in grind arith
+    go false q f = let ne = eqb-false r n q in let k : r < n = omega (arith, ne) in let ih = f k in grind arith
 
-pub open_all : (p : Plan) (h : State) (up : Bool) (x r n m : ℕ) (found : Bool) →
-    n ≡ m → n ≤ r → r ≤ n → found ≡ open_here p h up x r → found ≡ open_here p h up x m
-open_all p h up x r n m found e a b k = let z : r ≡ m = omega arith in k ∙ ap (open_here p h up x) z
+pub none_open : (p : Plan) (h : State) (up : Bool) (x n : ℕ) → ((r : ℕ) → r < n → open_to p h up x r ≡ false) → false ≡ open_here p h up x n
+unfolding open_here
+none_open p h up x zero f = refl
+none_open p h up x (suc n) f =
+    let e = f n (omega arith) in let ih = none_open p h up x n (λ r l. f r (omega arith)) in grind arith
+
+-- a route of those from 0 on is open, or none is
+pub open_among : (p : Plan) (h : State) (up : Bool) (x n m : ℕ) (b : Bool) → n ≡ m →
+    MatchBool b ((k : ℕ) × (k < length (range_with_len 0 n)) × HoldsAt (λ r. open_to p h up x r ≡ true) (range_with_len 0 n) k)
+    (AllWithin (λ r. open_to p h up x r ≡ false) (range_with_len 0 n) 0 (length (range_with_len 0 n))) → b ≡ open_here p h up x m
+open_among p h up x n m true e w =
+    let l = length-range_with_len 0 n in
+    let k : w.0 < n = omega (arith, l, w.1) in
+    let z : 0 + w.0 ≡ w.0 = omega arith in
+    let s = ap (open_to p h up x) (get_or-range_with_len 0 n w.0 0 k ∙ z) in
+    some_open p h up x m w.0 (omega arith) (sym s ∙ w.2 0)
+open_among p h up x n m false e f = none_open p h up x m (λ r d. one r (omega (arith, e)))
+  where
+    one : (r : ℕ) → r < n → open_to p h up x r ≡ false
+    one r k =
+        let l = length-range_with_len 0 n in
+        let z : 0 + r ≡ r = omega arith in
+        let s = ap (open_to p h up x) (get_or-range_with_len 0 n r 0 k ∙ z) in
+        sym s ∙ f r 0 (omega arith) (omega (arith, l))
 
 -- marks
 pub length_marked : (xs : List ℕ) (bs : List Bool) → length (mark_all xs bs) ≡ length bs

@@ -23,8 +23,8 @@ pub fn occupancy(trains: &[Train]) -> [bool; 64]
     ensures { marks result ≡ within (occupied (length trains.now) (trains_of trains.now)) }
 {
     let mut occupied = [false; 64];
-    for i in 0..trains.len() {
-        trains[i].mark(&mut occupied);
+    for train in trains {
+        train.mark(&mut occupied);
     }
     occupied
 }

@@ -1,9 +1,9 @@
-// What a train finds before it: the section beyond, and a route that is open to it.
+// What a train finds before it: the section beyond, and a route that is open to it. The plan and how points lie are two parameters, and no `Sight`: a train sees what is occupied only where it comes in.
 ghost use Rattle.std.specs.Prelude.{◌≡◌, true, not, ◌||◌, length, slice_set};
 ghost use Rattle.interlocking.specs.Says.{state_of};
 ghost use Rattle.trains.specs.Held.{ahead, opens};
 ghost use Rattle.trains.specs.Trains.{may_enter, open_here};
-ghost use Rattle.plan.specs.Plan.{beyond, marks, sameb};
+ghost use Rattle.plan.specs.Plan.{beyond, marks};
 ghost use Rattle.plan.specs.View.{plan_of, route_of};
 
 use conditions::may_come;
@@ -32,17 +32,11 @@ pub fn beyond(plan: Plan<'_>, lies: &[bool], up: bool, x: u16) -> u16
     ahead(end, mark_at(lies, usize::from(end.point)))
 }
 
-fn same(a: bool, b: bool) -> bool
-    ensures { result ≡ sameb a b }
-{
-    if a { b } else { !b }
-}
-
 // Is this route open to a train at x that goes this way?
 fn opens(stage: Stage, route: Route<'_>, up: bool, x: u16) -> bool
     ensures { result ≡ opens stage (route_of route.entry) up x }
 {
-    stage.is_open() & ((route.begin() == x) & same(route.up(), up))
+    stage.is_open() & ((route.begin() == x) & (route.up() == up))
 }
 
 // Is some route open to it?
@@ -50,14 +44,10 @@ pub fn open_here(plan: Plan<'_>, interlocking: &Interlocking, up: bool, x: u16) 
     ensures { result ≡ open_here (plan_of plan.entry) (state_of interlocking.now) up x (length (plan_of plan.entry).routes) }
 {
     let n = usize::from(plan.routes());
-    let mut found = false;
-    for r in 0..n {
-        found = opens(interlocking.stage_of(r), plan.route(r), up, x) | found;
-    }
-    found
+    (0..n).any(|r| opens(interlocking.stage_of(r), plan.route(r), up, x))
 }
 
-// A front passes a signal only if a route is open to it.
+// A front passes a signal only if a route is open to it: the condition, by the name that trains have for it.
 pub fn may_pass(signal: bool, shown: bool) -> bool
     ensures { result ≡ not signal || shown }
 {
@@ -69,6 +59,7 @@ pub fn mark(marks: &mut [bool], x: u16)
     ensures { marks.new ≡ slice_set marks.old x true }
 {
     let x = usize::from(x);
+    // By index: `get_mut` says nothing of what the slice ends as.
     if x < marks.len() {
         marks[x] = true;
     }

@@ -33,7 +33,7 @@ impl Train {
     pub fn is_nowhere(&self) -> bool
         ensures { result ≡ empty self.now.body.items }
     {
-        self.body.len() == 0
+        self.body.is_empty()
     }
 
     pub fn goes_up(&self) -> bool
@@ -56,27 +56,25 @@ impl Train {
         self.body.len() < 2
     }
 
-    // The section of its front, or 0.
+    // The section of its front, or 0, as the definitions read past a list's end.
     pub fn front(&self) -> u16
         ensures { result ≡ front self.now.body.items }
     {
-        if self.body.len() > 0 { self.body[0] } else { 0 }
+        self.body.first().copied().unwrap_or(0)
     }
 
     // The section of its other end, or 0.
     pub fn back(&self) -> u16
         ensures { result ≡ last_of 0 self.now.body.items }
     {
-        let n = self.body.len();
-        if n > 0 { self.body[n - 1] } else { 0 }
+        self.body.last().copied().unwrap_or(0)
     }
 
     // Its sections marked.
     pub fn mark(&self, occupied: &mut [bool])
         ensures { occupied.new ≡ mark_all self.now.body.items occupied.old }
     {
-        let body = self.body.as_slice();
-        for x in body {
+        for x in &self.body {
             mark(occupied, *x);
         }
     }
@@ -134,7 +132,7 @@ impl Train {
     pub fn draws(&mut self)
         ensures { train_of self.new ≡ record { up = self.old.up; body = without_last self.old.body.items } }
     {
-        let _ = self.body.pop();
+        self.body.pop();
     }
 
     pub fn reverses(&mut self)

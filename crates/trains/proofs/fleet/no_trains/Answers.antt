@@ -1,5 +1,5 @@
-use Rattle.std.proofs.Common.{◌≡◌, vec_items, arith}
-use Rattle.trains.proofs.Trains.{nowhere_all, nowhere_more, nowhere_start}
+use Rattle.std.proofs.Common.{vec_items}
+use Rattle.trains.proofs.Trains.{nowhere_more, nowhere_start}
 use Rattle.trains.proofs.fleet.no_trains.Goals as goal
 
 pub loop-init : goal.loop-init
@@ -7,6 +7,3 @@ loop-init c = nowhere_start _ c.new-trains.ensures.items
 
 pub loop-preserved : goal.loop-preserved
 loop-preserved c = nowhere_more c.loop.counter (vec_items c.loop.trains) _ c.nowhere.result c.in_ok-push.ensures.items c.nowhere.ensures c.loop.invariant
-
-pub returns : goal.returns
-returns c = let e : c.loop.counter ≡ 16 = omega arith in nowhere_all c.loop.counter 16 _ e c.loop.invariant

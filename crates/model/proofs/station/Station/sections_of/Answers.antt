@@ -1,12 +1,8 @@
-use Rattle.std.proofs.Common.{vec_items, sym, ap, ◌∙◌, arith}
+use Rattle.std.proofs.Common.{ℕ, List, Bor, vec_items, ap, rules}
 use Rattle.trains.specs.Trains.{Train}
-use Rattle.trains.proofs.Trains.{train_here, train_past}
+use Rattle.model.proofs.Cans.{of_train}
 use Rattle.model.proofs.station.Station.sections_of.Goals as goal
 
-pub returns-then-i-lt16 : goal.returns-then-i-lt16
-returns-then-i-lt16 c =
-    c.sections.ensures ∙ ap (λ (t : Train). t.body)
-    (train_here (vec_items c.args.self.now.world.trains) c.args.i c.args.self.now.world.trains.len c.index.result.now (omega arith) c.args.self.now.world.trains.ok.0 c.index.ensures)
-
-pub returns-else-i-lt16 : goal.returns-else-i-lt16
-returns-else-i-lt16 c = sym (ap (λ (t : Train). t.body) (train_past (vec_items c.args.self.now.world.trains) c.args.i (omega arith)))
+pub returns : goal.returns
+returns c =
+    of_train _ (vec_items c.args.self.now.world.trains) c.args.i _ c.map_or.result.now (λ (t : Train). t.body) c.deref.ensures.value c.get.ensures.lookup.3 c.map_or.ensures (λ k. ap (λ (s : Bor (List ℕ)). s.now) k) (λ x k. search rules)

@@ -2,4 +2,4 @@ use Rattle.trains.proofs.Bodies.{empty_is}
 use Rattle.trains.proofs.train.Train.is_nowhere.Goals as goal
 
 pub returns : goal.returns
-returns c = empty_is _ _ _ c.len.ensures c.args.self.now.body.ok.0
+returns c = let f = empty_is c.args.self.now.body.items in cc

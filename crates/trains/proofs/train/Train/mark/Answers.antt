@@ -10,4 +10,4 @@ loop-x-preserved c = folds_more mark_all (λ bs x. set bs x true) (λ x xs bs. r
 pub returns : goal.returns
 unfolding mark_all
 returns c =
-    folds_all mark_all _ _ _ _ c.loop-x-test.false c.loop-x.invariant ∙ ap (λ (xs : List ℕ). mark_all xs c.args.occupied.now) c.as_slice-body.ensures.value
+    folds_all mark_all _ _ _ _ c.loop-x-test.false c.loop-x.invariant ∙ ap (λ (xs : List ℕ). mark_all xs c.args.occupied.now) c.deref-x-items.ensures.value
