@@ -1,7 +1,14 @@
 -- Which route clears a signal, and the orders gone through.
-use Rattle.std.proofs.Common.{◌≡◌, ℕ, zero, suc, ◌+◌, ◌<◌, ◌≤◌, Bool, true, false, not, ◌&&◌, ◌||◌, eqb, ◌≢◌, List, [], ◌∷◌, ◌++◌, length, sym, refl, ap, ◌∙◌, add-one, arith, eq-eqb, eqb-true}
+use Rattle.std.proofs.Common.{Option, Some, None, ◌≡◌, ℕ, zero, suc, ◌+◌, ◌<◌, ◌≤◌, Bool, true, false, ◌&&◌, ◌||◌, eqb, ◌≢◌, List, [], ◌∷◌, ◌++◌, length, sym, refl, ap, ◌∙◌, add-one, arith, eq-eqb, eqb-true}
 use borrow.Author.Tests.{eqb-false}
+use Rattle.std.proofs.lemmas.Bool.{and_parts, or_right}
 use Rattle.std.proofs.lemmas.List.{append-nil, append_assoc}
+use Rattle.std.specs.List.{list_any, range_with_len}
+use Rattle.std.specs.Option.{option_to_list}
+use Rattle.std.specs.Iterator.{Drains}
+use Rattle.std.specs.Iterator.Adapters.{once_item, once_steps}
+use Rattle.std.specs.declared.iter.Once.{Once}
+use Rattle.std.proofs.iter.Yields.{Once-Drains}
 use Rattle.plan.specs.Plan.{sameb, Plan, route}
 use Rattle.interlocking.specs.State.{State}
 use Rattle.interlocking.specs.declared.Stage.{Stage}
@@ -9,18 +16,6 @@ use Rattle.interlocking.specs.declared.Stage.TheVariants.{Idle, Set, Shown, Used
 use Rattle.field.specs.Field.{is_shown, clears, shows_below, ClearedBy, ShowsExactly, signal_order, signal_orders, point_orders, orders_of}
 use Rattle.field.specs.declared.Order.{Order}
 use Rattle.field.specs.declared.Order.TheVariants.{Point}
-
-pub shows_none : (p : Plan) (h : State) (up : Bool) (x : ℕ) → shows_below p h up x 0 ≡ false
-unfolding shows_below
-shows_none p h up x = refl
-
-pub shows_more : (p : Plan) (h : State) (up : Bool) (x r : ℕ) (b : Bool) → shows_below p h up x r ≡ false → b ≡ clears p h up x r → b ≡ false → shows_below p h up x (r + 1) ≡ false
-unfolding shows_below
-shows_more p h up x r b e f g = let a = add-one r in cc
-
-or_right : (a b : Bool) → b ≡ true → (a || b) ≡ true
-or_right true b e = refl
-or_right false b e = e
 
 shows_at : (p : Plan) (h : State) (up : Bool) (x r n : ℕ) → r < n → clears p h up x r ≡ true → shows_below p h up x n ≡ true
 unfolding shows_below
@@ -33,11 +28,26 @@ shows_at p h up x r (suc n) l f = go (eqb r n) refl (λ m. shows_at p h up x r n
         let z : r ≢ n = eqb-false r n e in
         let m : r < n = omega arith in or_right (clears p h up x n) (shows_below p h up x n) (ih m)
 
-pub shows_hit : (p : Plan) (h : State) (up : Bool) (x r n m : ℕ) (b : Bool) → r < n → n ≡ m → b ≡ clears p h up x r → b ≡ true → true ≡ shows_below p h up x m
-shows_hit p h up x r n m b l e f g = let k : r < m = omega arith in sym (shows_at p h up x r m k (sym f ∙ g))
+or_swap : (a b c : Bool) → (a || (b || c)) ≡ (b || (a || c))
+or_swap true true c = refl
+or_swap true false c = refl
+or_swap false b c = refl
 
-pub shows_not : (p : Plan) (h : State) (up : Bool) (x n m k : ℕ) → n ≤ m → m ≤ n → m ≡ k → shows_below p h up x n ≡ false → false ≡ shows_below p h up x k
-shows_not p h up x n m k a b e f = let q : n ≡ k = omega arith in cc
+-- a test of numbers that follow each other, begun at the last
+any_more : (t : ℕ → Bool) (a n : ℕ) → list_any t (range_with_len a (suc n)) ≡ (t (a + n) || list_any t (range_with_len a n))
+any_more t a zero = let e : a + 0 ≡ a = omega arith in cc
+any_more t a (suc n) =
+    let e : a + 1 + n ≡ a + suc n = omega arith in
+    let q = any_more t (a + 1) n in
+    let w = or_swap (t a) (t (a + suc n)) (list_any t (range_with_len (a + 1) n)) in cc
+
+pub any_shows : (p : Plan) (h : State) (up : Bool) (x n : ℕ) → list_any (λ r. clears p h up x r) (range_with_len 0 n) ≡ shows_below p h up x n
+unfolding shows_below
+any_shows p h up x zero = refl
+any_shows p h up x (suc n) =
+    let e : 0 + n ≡ n = omega arith in
+    let q = any_more (λ r. clears p h up x r) 0 n in
+    let w = any_shows p h up x n in cc
 
 shown_stage : (g : Stage) → is_shown g ≡ true → g ≡ Shown
 shown_stage Idle e = grind arith
@@ -45,14 +55,6 @@ shown_stage Set e = grind arith
 shown_stage Shown e = refl
 shown_stage Used e = grind arith
 shown_stage (Falling n) e = grind arith
-
-and_left : (a b : Bool) → (a && b) ≡ true → a ≡ true
-and_left true b e = refl
-and_left false b e = e
-
-and_right : (a b : Bool) → (a && b) ≡ true → b ≡ true
-and_right true b e = e
-and_right false b e = grind arith
 
 same_way : (a b : Bool) → sameb a b ≡ true → a ≡ b
 unfolding sameb
@@ -78,12 +80,12 @@ some_below p h up x (suc n) e = go (clears p h up x n) refl e (λ q. some_below 
 
 cleared : (p : Plan) (h : State) (up : Bool) (x r : ℕ) → r < length p.routes → clears p h up x r ≡ true → ClearedBy p h up x r
 cleared p h up x r l e =
-    let a = and_left (is_shown (h.stage r)) (eqb (route p r).begin x && sameb (route p r).up up) e in
-    let b = and_right (is_shown (h.stage r)) (eqb (route p r).begin x && sameb (route p r).up up) e in record {
+    let a = and_parts (is_shown (h.stage r)) (eqb (route p r).begin x && sameb (route p r).up up) e in
+    let b = and_parts (eqb (route p r).begin x) (sameb (route p r).up up) a.1 in record {
       there = l;
-      begins = eqb-true (route p r).begin x (and_left (eqb (route p r).begin x) (sameb (route p r).up up) b);
-      goes = same_way (route p r).up up (and_right (eqb (route p r).begin x) (sameb (route p r).up up) b);
-      shown = shown_stage (h.stage r) a;
+      begins = eqb-true (route p r).begin x b.0;
+      goes = same_way (route p r).up up b.1;
+      shown = shown_stage (h.stage r) a.0;
     }
 
 clears_by : (p : Plan) (h : State) (up : Bool) (x r : ℕ) → ClearedBy p h up x r → clears p h up x r ≡ true
@@ -98,15 +100,10 @@ exactly p h up x = (
   (λ r k. shows_at p h up x r (length p.routes) k.there (clears_by p h up x r k)),
 )
 
-pub same_then : (a b : Bool) → a ≡ true → b ≡ sameb a b
-unfolding sameb
-same_then true b e = refl
-same_then false b e = grind arith
-
-pub same_else : (a b : Bool) → a ≡ false → not b ≡ sameb a b
-unfolding sameb
-same_else true b e = grind arith
-same_else false b e = refl
+-- a list extended by an option
+pub one_put : {A : Type 0} (o : Option A) (old xs new : List A) (it : Once A) → once_item it ≡ o → new ≡ old ++ xs → Drains once_steps it xs → new ≡ old ++ option_to_list o
+one_put None old xs new it q e d = let w : xs ≡ [] = Once-Drains it None xs q d in cc
+one_put (Some x) old xs new it q e d = let w : xs ≡ x ∷ [] = Once-Drains it (Some x) xs q d in cc
 
 -- the orders, one section or one point more
 pub none_yet : (p : Plan) (h : State) → signal_orders p h 0 ≡ []

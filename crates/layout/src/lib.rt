@@ -3,56 +3,36 @@
 
 use plan::view::Plan;
 
+// Where a section stands; it has no row until it is placed.
 #[derive(Clone, Copy)]
-pub struct Layout {
-    columns: [u8; 64],
-    rows: [u8; 64],
-    placed: [bool; 64],
-    count: u8,
+struct Cell {
+    column: u8,
+    row: Option<u8>,
 }
 
-fn at(values: &[u8], x: u16) -> u8 {
-    let x = x as usize;
-    if x < values.len() { values[x] } else { 0 }
+// The cells are an array, as of the sections elsewhere: a layout asks for no memory.
+#[derive(Clone, Copy)]
+pub struct Layout<'a> {
+    plan: Plan<'a>,
+    cells: [Cell; 64],
+    height: u8,
 }
 
-fn put(values: &mut [u8], x: u16, value: u8) {
-    let x = x as usize;
-    if x < values.len() {
-        values[x] = value;
-    }
-}
-
-fn set(marks: &mut [bool], x: u16) {
-    let x = x as usize;
-    if x < marks.len() {
-        marks[x] = true;
-    }
-}
-
-// The section beyond an end on one side; an end that no point moves has only the one on the left.
-pub fn beyond(plan: Plan<'_>, up: bool, x: u16, left: bool) -> Option<u16> {
+// The sections beyond an end, on the left and on the right; an end that no point moves has only the one on the left. An end is a way and a section, as in `Plan::end`.
+pub fn beyond(plan: Plan<'_>, up: bool, x: u16) -> [Option<u16>; 2] {
     let end = plan.end(up, x);
-    let y = if left { end.on_left } else { end.on_right };
-    if (left || end.moves) && y < plan.sections() {
-        Some(y)
-    } else {
-        None
-    }
-}
-
-fn is(found: Option<u16>, x: u16) -> bool {
-    match found {
-        Some(y) => y == x,
-        None => false,
-    }
+    let left = Some(end.on_left).filter(|y| *y < plan.sections());
+    let right = Some(end.on_right).filter(|y| end.moves && *y < plan.sections());
+    [left, right]
 }
 
 // How straight on it is from a section to one beyond: most so where no point moves the end, and then on the left.
+// This and what follows ask the plan and no cells: methods of `Plan` can stand only in its crate, which draws nothing.
 fn weight(plan: Plan<'_>, up: bool, x: u16, y: u16) -> u8 {
+    let [left, _] = beyond(plan, up, x);
     if !plan.end(up, x).moves {
         4
-    } else if is(beyond(plan, up, x, true), y) {
+    } else if left == Some(y) {
         1
     } else {
         0
@@ -65,210 +45,181 @@ fn straight(plan: Plan<'_>, up: bool, x: u16, y: u16) -> u8 {
 
 // The section that goes on straightest beyond an end.
 fn main_beyond(plan: Plan<'_>, up: bool, x: u16) -> Option<u16> {
-    match (beyond(plan, up, x, true), beyond(plan, up, x, false)) {
-        (Some(a), Some(b)) => {
-            if straight(plan, up, x, a) >= straight(plan, up, x, b) {
-                Some(a)
-            } else {
-                Some(b)
-            }
-        }
-        (Some(a), None) => Some(a),
-        (None, found) => found,
+    match beyond(plan, up, x) {
+        [Some(a), Some(b)] if straight(plan, up, x, a) < straight(plan, up, x, b) => Some(b),
+        [left, right] => left.or(right),
     }
 }
 
 // The next section of the same line: each is the other's straightest.
 fn next_in_line(plan: Plan<'_>, up: bool, x: u16) -> Option<u16> {
-    match main_beyond(plan, up, x) {
-        Some(y) => {
-            if is(main_beyond(plan, !up, y), x) {
-                Some(y)
-            } else {
-                None
-            }
-        }
-        None => None,
-    }
+    main_beyond(plan, up, x).filter(|y| main_beyond(plan, !up, *y) == Some(x))
 }
 
-// The last section of the line that begins here.
+// The last section of the line that begins here; in a ring this stops after so many as there can be.
 fn line_end(plan: Plan<'_>, x: u16) -> u16 {
-    let mut last = x;
-    for _ in 0..64 {
-        if let Some(y) = next_in_line(plan, true, last) {
-            last = y;
-        }
-    }
-    last
+    (0..64).fold(x, |last, _| next_in_line(plan, true, last).unwrap_or(last))
 }
 
-impl Layout {
-    pub fn new(plan: Plan<'_>) -> Layout {
-        let mut layout = Layout {
-            columns: [0; 64],
-            rows: [0; 64],
-            placed: [false; 64],
-            count: 0,
+impl<'a> Layout<'a> {
+    pub fn new(plan: Plan<'a>) -> Layout<'a> {
+        let unplaced = Cell {
+            column: 0,
+            row: None,
         };
-        layout.spread(plan);
-        layout.draw_near(plan);
-        layout.place_all(plan);
+        let mut layout = Layout {
+            plan,
+            cells: [unplaced; 64],
+            height: 0,
+        };
+        layout.spread();
+        layout.draw_near();
+        layout.place_all();
         layout
     }
 
+    // Each section has a column, and a row once the layout is made; a number that is no section gets 0, since what draws it has no other place for it.
     pub fn column(&self, x: u16) -> u8 {
-        at(&self.columns, x)
+        self.cells.get(usize::from(x)).map_or(0, |cell| cell.column)
     }
 
     pub fn row(&self, x: u16) -> u8 {
-        at(&self.rows, x)
+        self.placed(x).unwrap_or(0)
     }
 
     // How many rows there are.
     pub fn height(&self) -> u8 {
-        self.count
+        self.height
     }
 
     // The column where a section ends: where the first one beyond begins, or the next one.
-    pub fn end(&self, plan: Plan<'_>, x: u16) -> u8 {
+    pub fn end(&self, x: u16) -> u8 {
         let least = self.column(x).saturating_add(1);
-        let first = self.first_beyond(plan, x);
-        if first > least && first < 255 {
-            first
-        } else {
-            least
-        }
+        self.first_beyond(x).unwrap_or(least).max(least)
     }
 
-    fn first_beyond(&self, plan: Plan<'_>, x: u16) -> u8 {
-        let mut first = 255;
-        if let Some(y) = beyond(plan, true, x, true) {
-            first = first.min(self.column(y));
-        }
-        if let Some(y) = beyond(plan, true, x, false) {
-            first = first.min(self.column(y));
-        }
-        first
+    fn first_beyond(&self, x: u16) -> Option<u8> {
+        beyond(self.plan, true, x)
+            .into_iter()
+            .flatten()
+            .map(|y| self.column(y))
+            .min()
     }
 
     // The column where the last section ends.
-    pub fn width(&self, plan: Plan<'_>) -> u8 {
-        let mut widest = 1;
-        for x in 0..plan.sections() {
-            widest = widest.max(self.end(plan, x));
-        }
-        widest
+    pub fn width(&self) -> u8 {
+        (0..self.plan.sections())
+            .map(|x| self.end(x))
+            .max()
+            .unwrap_or(1)
     }
 
     // A section stands to the right of each below it; in a ring this stops at the number of sections.
-    fn spread(&mut self, plan: Plan<'_>) {
-        for _ in 0..plan.sections() {
-            for x in 0..plan.sections() {
-                self.push(plan, x, beyond(plan, true, x, true));
-                self.push(plan, x, beyond(plan, true, x, false));
+    fn spread(&mut self) {
+        for _ in 0..self.plan.sections() {
+            for x in 0..self.plan.sections() {
+                for y in beyond(self.plan, true, x).into_iter().flatten() {
+                    self.push(x, y);
+                }
             }
         }
     }
 
-    fn push(&mut self, plan: Plan<'_>, x: u16, found: Option<u16>) {
+    fn push(&mut self, x: u16, y: u16) {
         let next = self.column(x).saturating_add(1);
-        if let Some(y) = found {
-            if self.column(y) < next && u16::from(next) < plan.sections() {
-                put(&mut self.columns, y, next);
-            }
+        if self.column(y) < next && u16::from(next) < self.plan.sections() {
+            self.set_column(y, next);
+        }
+    }
+
+    fn set_column(&mut self, x: u16, column: u8) {
+        if let Some(cell) = self.cells.get_mut(usize::from(x)) {
+            cell.column = column;
         }
     }
 
     // A section with none below it stands close to the one above it.
-    fn draw_near(&mut self, plan: Plan<'_>) {
-        for x in 0..plan.sections() {
-            let first = self.first_beyond(plan, x);
-            let alone = main_beyond(plan, false, x).is_none();
-            if alone && first > 0 && first < 255 {
-                put(&mut self.columns, x, first - 1);
+    fn draw_near(&mut self) {
+        for x in 0..self.plan.sections() {
+            let alone = main_beyond(self.plan, false, x).is_none();
+            let before = self.first_beyond(x).and_then(|first| first.checked_sub(1));
+            if let Some(column) = before.filter(|_| alone) {
+                self.set_column(x, column);
             }
         }
     }
 
-    fn place_all(&mut self, plan: Plan<'_>) {
+    fn place_all(&mut self) {
         for column in 0..64 {
-            for x in 0..plan.sections() {
+            for x in 0..self.plan.sections() {
                 if self.column(x) == column {
-                    self.place(plan, x);
+                    self.place(x);
                 }
             }
         }
     }
 
     // A section goes on in its line's row; where a line begins it gets a row beside the one that it leaves, or a new one.
-    fn place(&mut self, plan: Plan<'_>, x: u16) {
-        let row = match self.if_placed(next_in_line(plan, false, x)) {
-            Some(y) => self.row(y),
-            None => self.new_row(plan, x),
+    fn place(&mut self, x: u16) {
+        let row = match next_in_line(self.plan, false, x).and_then(|y| self.placed(y)) {
+            Some(row) => row,
+            None => self.new_row(x),
         };
-        put(&mut self.rows, x, row);
-        set(&mut self.placed, x);
+        if let Some(cell) = self.cells.get_mut(usize::from(x)) {
+            cell.row = Some(row);
+        }
     }
 
     // What leaves to the left goes above, seen on the way up, and what leaves to the right below.
-    fn new_row(&mut self, plan: Plan<'_>, x: u16) -> u8 {
-        let to = self.column(line_end(plan, x));
-        match self.if_placed(main_beyond(plan, false, x)) {
-            None => self.insert(self.count),
-            Some(y) => {
-                let row = self.row(y);
-                let above = is(beyond(plan, true, y, true), x);
-                let beside = if above {
-                    row.wrapping_sub(1)
-                } else {
-                    row.saturating_add(1)
-                };
-                if beside < self.count && self.is_free(plan, beside, self.column(x), to) {
-                    beside
-                } else if above {
-                    self.insert(row)
-                } else {
-                    self.insert(row.saturating_add(1))
-                }
-            }
+    fn new_row(&mut self, x: u16) -> u8 {
+        let Some(y) = main_beyond(self.plan, false, x) else {
+            return self.insert(self.height);
+        };
+        let Some(row) = self.placed(y) else {
+            return self.insert(self.height);
+        };
+        let [left, _] = beyond(self.plan, true, y);
+        let above = left == Some(x);
+        let beside = if above {
+            row.checked_sub(1)
+        } else {
+            row.checked_add(1)
+        };
+        match beside.filter(|beside| self.has_room(*beside, x)) {
+            Some(beside) => beside,
+            None if above => self.insert(row),
+            None => self.insert(row.saturating_add(1)),
         }
+    }
+
+    // Is there such a row, and is it empty where the line goes that begins here?
+    fn has_room(&self, row: u8, x: u16) -> bool {
+        let to = self.column(line_end(self.plan, x));
+        row < self.height && self.is_free(row, self.column(x), to)
     }
 
     // Is a row empty between two columns?
-    fn is_free(&self, plan: Plan<'_>, row: u8, from: u8, to: u8) -> bool {
-        let mut free = true;
-        for x in 0..plan.sections() {
-            let before = self.end(plan, x) < from;
-            let behind = self.column(x) > to.saturating_add(1);
-            if self.is_placed(x) && self.row(x) == row && !before && !behind {
-                free = false;
-            }
-        }
-        free
+    fn is_free(&self, row: u8, from: u8, to: u8) -> bool {
+        (0..self.plan.sections()).all(|x| {
+            self.placed(x) != Some(row)
+                || self.end(x) < from
+                || self.column(x) > to.saturating_add(1)
+        })
     }
 
-    fn is_placed(&self, x: u16) -> bool {
-        plan::read::mark_at(&self.placed, x as usize)
-    }
-
-    // A section that has its row already; in a ring the one below may have none yet.
-    fn if_placed(&self, found: Option<u16>) -> Option<u16> {
-        match found {
-            Some(y) => if self.is_placed(y) { Some(y) } else { None },
-            None => None,
-        }
+    // The row of a section that has one already; in a ring the one below may have none yet.
+    fn placed(&self, x: u16) -> Option<u8> {
+        self.cells.get(usize::from(x))?.row
     }
 
     // A new row; those from there on move down.
     fn insert(&mut self, row: u8) -> u8 {
-        for x in 0..64 {
-            let old = self.row(x);
-            if self.is_placed(x) && old >= row {
-                put(&mut self.rows, x, old.saturating_add(1));
+        for cell in &mut self.cells {
+            if let Some(old) = cell.row.filter(|old| *old >= row) {
+                cell.row = Some(old.saturating_add(1));
             }
         }
-        self.count = self.count.saturating_add(1);
+        self.height = self.height.saturating_add(1);
         row
     }
 }

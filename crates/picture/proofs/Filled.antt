@@ -1,23 +1,31 @@
--- A loop that fills an array of n, each place with what belongs there.
-use Rattle.std.proofs.Common.{◌≡◌, ℕ, ◌+◌, ◌<◌, ◌≤◌, ltb, List, length, get_or, set, replicate, ◌∙◌, arith, length-set, le-ltb, lt-ltb}
-use Rattle.std.proofs.lemmas.List.{length-replicate}
+-- An array that `from_fn` fills, each place with what belongs there.
+use Rattle.std.proofs.Common.{◌≡◌, ℕ, zero, suc, ◌+◌, ◌<◌, ◌≤◌, eqb, ltb, ◌≢◌, Bool, true, false, List, get_or, refl, subst, arith, ltb-false, ltb-true, eqb-true}
+use borrow.Author.Tests.{eqb-false}
+use Rattle.std.proofs.lemmas.List.{get_or_past}
+use Rattle.std.specs.Array.{IsFromFnResult, IsFromFnResultFrom}
+use Rattle.std.specs.Fn.{Called}
+use denote.Param.Members.{Mut}
 use Rattle.plan.specs.Plan.{pick}
-use Rattle.interlocking.proofs.Sweeps.{Upto, upto_none, upto_more, upto_all}
 
-abbrev pub Filling : {A : Type 0} → (ℕ → A) → A → ℕ → List A → ℕ → Type 0
-Filling v d n xs i = Upto (λ x o. pick (ltb x n) (v x) d) d (replicate n d) xs i × (length xs ≡ n)
+-- each call gives what belongs at its place, and leaves the closure as it is
+abbrev pub Gives : {F B : Type 0} → Mut F (ℕ × Unit {0}) B → F → (ℕ → B) → Type 0
+Gives {F} {B} g f v = (i : ℕ) (y : B) (q : F) → Called g f (i, tt) y q → (q ≡ f) × (y ≡ v i)
 
-pub none_filled : {A : Type 0} (v : ℕ → A) (d : A) (n : ℕ) → Filling v d n (replicate n d) 0
-none_filled v d n = (upto_none (λ x o. pick (ltb x n) (v x) d) d (replicate n d), length-replicate n d)
+filled_from : {F B : Type 0} (g : Mut F (ℕ × Unit {0}) B) (f : F) (v : ℕ → B) (ys : List B) (i n x : ℕ) (d : B) → Gives g f v → IsFromFnResultFrom g f ys i n → i ≤ x → x < i + n → get_or ys x d ≡ v x
+filled_from g f v ys i zero x d c r l m = absurd (omega arith)
+filled_from {F} {B} g f v ys i (suc n) x d c r l m =
+    go (eqb x i) refl (filled_from g f v ys (i + 1) n x d c (subst (λ w. IsFromFnResultFrom g w ys (i + 1) n) said.0 r.4))
+  where
+    said : (r.0 ≡ f) × (r.1 ≡ v i)
+    said = c i r.1 r.0 r.3
 
-pub more_filled : {A : Type 0} (v : ℕ → A) (d : A) (n : ℕ) (xs : List A) (i : ℕ) (y : A) → i < n → Filling v d n xs i → y ≡ v i → Filling v d n (set xs i y) (i + 1)
-more_filled v d n xs i y l f e =
-    let m : i < length xs = omega (arith, f.1) in
-    let b = lt-ltb i n l in
-    let q : y ≡ pick (ltb i n) (v i) d = cc in
-    (upto_more (λ x o. pick (ltb x n) (v x) d) d (replicate n d) xs i y m f.0 q, length-set xs i y ∙ f.1)
+    go : (b : Bool) → eqb x i ≡ b → (i + 1 ≤ x → x < i + 1 + n → get_or ys x d ≡ v x) → get_or ys x d ≡ v x
+    go true e ih = let z = eqb-true x i e in let w = r.2.1 d in let s = said in cc
+    go false e ih = let z : x ≢ i = eqb-false x i e in ih (omega arith) (omega arith)
 
-pub all_filled : {A : Type 0} (v : ℕ → A) (d : A) (n : ℕ) (xs : List A) (i : ℕ) → n ≤ i → Filling v d n xs i → (x : ℕ) → get_or xs x d ≡ pick (ltb x n) (v x) d
-all_filled v d n xs i l f =
-    let r = length-replicate n d in
-    upto_all (λ x o. pick (ltb x n) (v x) d) d (replicate n d) xs i (omega arith) (λ x m. let k : n ≤ x = omega arith in let b = le-ltb x n k in cc) f.0
+pub filled : {F B : Type 0} (g : Mut F (ℕ × Unit {0}) B) (f : F) (v : ℕ → B) (ys : List B) (n : ℕ) (d : B) → IsFromFnResult g f ys n → Gives g f v → (x : ℕ) → get_or ys x d ≡ pick (ltb x n) (v x) d
+filled g f v ys n d r c x = go (ltb x n) refl
+  where
+    go : (b : Bool) → ltb x n ≡ b → get_or ys x d ≡ pick b (v x) d
+    go true e = let z : x < n = ltb-true x n e in filled_from g f v ys 0 n x d c r.each (omega arith) (omega arith)
+    go false e = let z : n ≤ x = ltb-false x n e in get_or_past ys x d (omega (arith, r.long))

@@ -8,18 +8,15 @@ use Rattle.interlocking.specs.declared.Stage.{Stage}
 use Rattle.interlocking.specs.declared.Stage.TheVariants.{Idle, Set, Shown, Used, Falling}
 use Rattle.field.specs.Field.{shows, aspect_of}
 use Rattle.field.specs.declared.Aspect.{Aspect}
-use Rattle.field.specs.declared.Aspect.TheVariants.{Stop as Stops, Proceed as Proceeds}
-use Rattle.picture.specs.declared.Light.{Light}
-use Rattle.picture.specs.declared.Light.TheVariants.{Absent, Stop, Proceed}
+use Rattle.field.specs.declared.Aspect.TheVariants.{Stop, Proceed}
 use Rattle.picture.specs.declared.Picture.{Picture}
 
-abbrev pub lit : Aspect → Light
-lit Stops = Stop
-lit Proceeds = Proceed
+abbrev pub lit : Aspect → Option Aspect
+lit a = Some a
 
--- what stands at an end of a section
-abbrev pub light_of : Plan → State → Bool → ℕ → Light
-light_of p h up x = pick (nat_lt x p.sections) (pick (p.signal up x) (lit (aspect_of (shows p h up x))) Absent) Absent
+-- what stands at an end of a section: no signal, or one and what it shows
+abbrev pub light_of : Plan → State → Bool → ℕ → Option Aspect
+light_of p h up x = pick (nat_lt x p.sections) (pick (p.signal up x) (lit (aspect_of (shows p h up x))) None) None
 
 -- each entry is what is seen or what is set; there is room for 64 sections and 32 points
 pub record Pictured (p : Plan) (h : Interlocking) (s : Occupancy) (t : Positions) (c : Picture) : Type 0 where
@@ -28,12 +25,12 @@ pub record Pictured (p : Plan) (h : Interlocking) (s : Occupancy) (t : Positions
   pub routes : c.routes ≡ length p.routes
   pub occupied : (x : ℕ) → slice_index_or c.occupied x false ≡ pick (nat_lt x 64) (s x) false
   pub lies : (q : ℕ) → slice_index_or c.lies q false ≡ pick (nat_lt q 32) (t q) false
-  pub up : (x : ℕ) → slice_index_or c.up x Absent ≡ pick (nat_lt x 64) (light_of p (state_of h) true x) Absent
-  pub down : (x : ℕ) → slice_index_or c.down x Absent ≡ pick (nat_lt x 64) (light_of p (state_of h) false x) Absent
+  pub up : (x : ℕ) → slice_index_or c.up x None ≡ pick (nat_lt x 64) (light_of p (state_of h) true x) None
+  pub down : (x : ℕ) → slice_index_or c.down x None ≡ pick (nat_lt x 64) (light_of p (state_of h) false x) None
   pub interlocking : c.interlocking ≡ h
 
-abbrev pub light_at : Picture → Bool → ℕ → Light
-light_at c up x = pick up (slice_index_or c.up x Absent) (slice_index_or c.down x Absent)
+abbrev pub light_at : Picture → Bool → ℕ → Option Aspect
+light_at c up x = pick up (slice_index_or c.up x None) (slice_index_or c.down x None)
 
 abbrev pub locked_for : ℕ → Option ℕ
 locked_for zero = None
@@ -43,10 +40,10 @@ abbrev pub bit : Bool → ℕ
 bit true = 1
 bit false = 0
 
-abbrev pub light_number : Light → ℕ
-light_number Absent = 0
-light_number Stop = 1
-light_number Proceed = 2
+abbrev pub light_number : Option Aspect → ℕ
+light_number None = 0
+light_number (Some Stop) = 1
+light_number (Some Proceed) = 2
 
 abbrev pub stage_kind : Stage → ℕ
 stage_kind Idle = 0

@@ -1,27 +1,19 @@
 // The picture: what stands where and what is set, for each section, point, signal and route.
 #![tactic(auto)]
 
-ghost use Rattle.std.specs.Prelude.{◌≡◌, ℕ, false, nat_lt, slice_index, slice_index_or};
+ghost use Rattle.std.specs.Prelude.{◌≡◌, ℕ, false, None, nat_lt, slice_index, slice_index_or};
 ghost use Rattle.interlocking.specs.Says.{state_of};
-ghost use Rattle.picture.specs.Picture.{bit, light_at, light_number, light_of, lit, locked_for, number_in, Pictured, stage_kind, time_left};
-ghost use Rattle.picture.specs.declared.Light.TheVariants.{Absent};
+ghost use Rattle.picture.specs.Picture.{light_at, light_number, light_of, locked_for, number_in, Pictured, stage_kind, time_left};
 ghost use Rattle.plan.specs.Plan.{marks, pick};
 ghost use Rattle.plan.specs.View.{plan_of};
 
-use field::{Aspect, aspect_at};
+use field::{Aspect, Field};
 use interlocking::{Interlocking, Stage};
 use plan::read::mark_at;
 use plan::view::Plan;
+use std::array;
 
-// What stands at an end of a section: no signal, or one and what it shows.
-#[derive(Clone, Copy)]
-pub enum Light {
-    Absent,
-    Stop,
-    Proceed,
-}
-
-// What was seen and what is set at one time. `up` and `down` are the signals at the two ends of each section.
+// What was seen and what is set at one time. `up` and `down` are the signals at the two ends of each section. Arrays, as in the interlocking, so that no memory is asked for.
 #[derive(Clone, Copy)]
 pub struct Picture {
     pub sections: u16,
@@ -29,85 +21,61 @@ pub struct Picture {
     pub routes: u16,
     pub occupied: [bool; 64],
     pub lies: [bool; 32],
-    pub up: [Light; 64],
-    pub down: [Light; 64],
+    pub up: [Option<Aspect>; 64],
+    pub down: [Option<Aspect>; 64],
     pub interlocking: Interlocking,
 }
 
-impl Light {
-    pub fn number(self) -> u16
-        ensures { result ≡ light_number self }
-    {
-        match self {
-            Light::Absent => 0,
-            Light::Stop => 1,
-            Light::Proceed => 2,
-        }
-    }
-}
+// Where each part of the numbers begins, after the occupied sections. They are a form for others to read, so numbers and no enum.
+const LOCK: usize = 64;
 
-// The signal that there is, or none.
-fn lit(there: bool, aspect: Aspect) -> Light
-    ensures { result ≡ pick there (lit aspect) Absent }
+const UP: usize = 128;
+
+const DOWN: usize = 192;
+
+const LIES: usize = 256;
+
+const WANTED: usize = 288;
+
+const STAGE: usize = 320;
+
+const TIME: usize = 384;
+
+// The number of what stands at an end of a section: no signal, or what the one there shows.
+pub fn light_number(light: Option<Aspect>) -> u16
+    ensures { result ≡ light_number light }
 {
-    if !there {
-        return Light::Absent;
-    }
-    match aspect {
-        Aspect::Stop => Light::Stop,
-        Aspect::Proceed => Light::Proceed,
+    match light {
+        None => 0,
+        Some(Aspect::Stop) => 1,
+        Some(Aspect::Proceed) => 2,
     }
 }
 
-fn light_on(plan: Plan<'_>, interlocking: &Interlocking, up: bool, x: usize) -> Light
-    ensures { result ≡ light_of (plan_of plan.entry) (state_of interlocking.now) up x }
+fn light_on(field: Field<'_, '_>, up: bool, x: usize) -> Option<Aspect>
+    ensures { result ≡ light_of (plan_of field.entry.plan) (state_of field.entry.interlocking.now) up x }
 {
-    if x >= plan.sections() as usize {
-        return Light::Absent;
+    if x < usize::from(field.plan.sections()) && field.plan.signal(up, x as u16) {
+        Some(field.aspect_at(up, x))
+    } else {
+        None
     }
-    lit(
-        plan.signal(up, x as u16),
-        aspect_at(plan, interlocking, up, x),
-    )
 }
 
-fn lights(plan: Plan<'_>, interlocking: &Interlocking, up: bool) -> [Light; 64]
-    ensures { (x : ℕ) → slice_index_or result x Absent ≡ pick (nat_lt x 64) (light_of (plan_of plan.entry) (state_of interlocking.now) up x) Absent }
+fn lights(field: Field<'_, '_>, up: bool) -> [Option<Aspect>; 64]
+    ensures { (x : ℕ) → slice_index_or result x None ≡ pick (nat_lt x 64) (light_of (plan_of field.entry.plan) (state_of field.entry.interlocking.now) up x) None }
 {
-    let mut lights = [Light::Absent; 64];
-    for x in 0..64 {
-        lights[x] = light_on(plan, interlocking, up, x);
-    }
-    lights
+    array::from_fn(|x| light_on(field, up, x))
 }
 
-// So many marks, of those that are given.
+// So many marks, of those that are given: `marks` of `memory` reads them from numbers instead.
 fn marked<const N: usize>(given: &[bool]) -> [bool; N]
     ensures { (x : ℕ) → slice_index_or result x false ≡ pick (nat_lt x N) (marks given.now x) false }
 {
-    let mut marks = [false; N];
-    for x in 0..N {
-        marks[x] = mark_at(given, x);
-    }
-    marks
+    array::from_fn(|x| mark_at(given, x))
 }
 
-fn light_at(lights: &[Light], x: usize) -> Light
-    ensures { result ≡ slice_index_or lights.now x Absent }
-{
-    if x < lights.len() {
-        lights[x]
-    } else {
-        Light::Absent
-    }
-}
-
-fn bit(b: bool) -> u16
-    ensures { result ≡ bit b }
-{
-    if b { 1 } else { 0 }
-}
-
+// The number of a stage, without the time that is left; a stage holds data, so this is no cast.
 fn stage_kind(stage: Stage) -> u16
     ensures { result ≡ stage_kind stage }
 {
@@ -120,22 +88,6 @@ fn stage_kind(stage: Stage) -> u16
     }
 }
 
-fn stage_time(stage: Stage) -> u16
-    ensures { result ≡ time_left stage }
-{
-    match stage {
-        Stage::Falling(n) => n,
-        _ => 0,
-    }
-}
-
-// The route that a lock is for.
-fn holder(lock: u16) -> Option<u16>
-    ensures { result ≡ locked_for lock }
-{
-    if lock == 0 { None } else { Some(lock - 1) }
-}
-
 impl Picture {
     pub fn new(
         plan: Plan<'_>,
@@ -145,14 +97,18 @@ impl Picture {
     ) -> Picture
         ensures { Pictured (plan_of plan.entry) interlocking (marks occupied.now) (marks lies.now) result }
     {
+        let field = Field {
+            plan,
+            interlocking: &interlocking,
+        };
         Picture {
             sections: plan.sections(),
             points: plan.points(),
             routes: plan.routes(),
             occupied: marked::<64>(occupied),
             lies: marked::<32>(lies),
-            up: lights(plan, &interlocking, true),
-            down: lights(plan, &interlocking, false),
+            up: lights(field, true),
+            down: lights(field, false),
             interlocking,
         }
     }
@@ -167,17 +123,15 @@ impl Picture {
     pub fn locked_for(&self, x: usize) -> Option<u16>
         ensures { result ≡ locked_for ((state_of self.now.interlocking).lock x) }
     {
-        holder(self.interlocking.lock_of(x))
+        self.interlocking.lock_of(x).checked_sub(1)
     }
 
-    pub fn light(&self, up: bool, x: usize) -> Light
+    // What the signal at an end of a section shows, if there is one.
+    pub fn light(&self, up: bool, x: usize) -> Option<Aspect>
         ensures { result ≡ light_at self.now up x }
     {
-        if up {
-            light_at(&self.up, x)
-        } else {
-            light_at(&self.down, x)
-        }
+        let lights = if up { &self.up } else { &self.down };
+        *lights.get(x)?
     }
 
     pub fn lies_left(&self, q: usize) -> bool
@@ -186,6 +140,7 @@ impl Picture {
         mark_at(&self.lies, q)
     }
 
+    // The picture's own reading beside `lies_left`, so that what draws it needs no interlocking.
     pub fn wants_left(&self, q: usize) -> bool
         ensures { result ≡ (state_of self.now.interlocking).wanted q }
     {
@@ -198,34 +153,36 @@ impl Picture {
         self.interlocking.stage_of(r)
     }
 
-    // How much time a falling route has left; the others have none.
+    // How much time a falling route has left; the others have none, for which the picture's numbers have 0.
     pub fn time_left(&self, r: usize) -> u16
         ensures { result ≡ time_left ((state_of self.now.interlocking).stage r) }
     {
-        stage_time(self.stage(r))
+        match self.stage(r) {
+            Stage::Falling(n) => n,
+            _ => 0,
+        }
     }
 
-    // One of the numbers: 0 on, occupied; 64 on, lock; 128 on, signal up; 192 on, signal down (0 none, 1 stop, 2 proceed);
-    // 256 on, lies left; 288 on, wanted left; 320 on, stage (0 idle, 1 set, 2 shown, 3 used, 4 falling); 384 on, time left.
+    // One of the numbers. A light is 0 none, 1 stop, 2 proceed; a stage 0 idle, 1 set, 2 shown, 3 used, 4 falling.
     fn number(&self, k: usize) -> u16
         ensures { result ≡ number_in self.now k }
     {
-        if k < 64 {
-            bit(self.is_occupied(k))
-        } else if k < 128 {
-            self.interlocking.lock_of(k - 64)
-        } else if k < 192 {
-            self.light(true, k - 128).number()
-        } else if k < 256 {
-            self.light(false, k - 192).number()
-        } else if k < 288 {
-            bit(self.lies_left(k - 256))
-        } else if k < 320 {
-            bit(self.wants_left(k - 288))
-        } else if k < 384 {
-            stage_kind(self.stage(k - 320))
+        if k < LOCK {
+            u16::from(self.is_occupied(k))
+        } else if k < UP {
+            self.interlocking.lock_of(k - LOCK)
+        } else if k < DOWN {
+            light_number(self.light(true, k - UP))
+        } else if k < LIES {
+            light_number(self.light(false, k - DOWN))
+        } else if k < WANTED {
+            u16::from(self.lies_left(k - LIES))
+        } else if k < STAGE {
+            u16::from(self.wants_left(k - WANTED))
+        } else if k < TIME {
+            stage_kind(self.stage(k - STAGE))
         } else {
-            self.time_left(k - 384)
+            self.time_left(k - TIME)
         }
     }
 
@@ -233,10 +190,6 @@ impl Picture {
     pub fn numbers(&self) -> [u16; 448]
         ensures { (k : ℕ) → slice_index result k ≡ pick (nat_lt k 448) (number_in self.now k) 0 }
     {
-        let mut numbers = [0; 448];
-        for k in 0..448 {
-            numbers[k] = self.number(k);
-        }
-        numbers
+        array::from_fn(|k| self.number(k))
     }
 }

@@ -1,8 +1,9 @@
 // The signs of a drawing in SVG: what stands on a section's line or at its ends.
 #![tactic(auto)]
 
-use picture::Light;
-use std::alloc::{AllocError, Global};
+use field::Aspect;
+use std::alloc::AllocError;
+use std::fmt::Write;
 
 // Where a section's line lies.
 #[derive(Clone, Copy)]
@@ -12,107 +13,52 @@ pub struct Spot {
     pub y: u32,
 }
 
-pub fn middle(spot: Spot) -> u32 {
-    spot.from / 2 + spot.to / 2
+// One of the two ends of a section's line.
+#[derive(Clone, Copy)]
+pub struct LineEnd {
+    pub spot: Spot,
+    pub up: bool,
 }
 
-// A place further in from an end, and one further out.
-fn inwards(up: bool, spot: Spot, by: u32) -> u32 {
-    if up {
-        spot.to.saturating_sub(by)
-    } else {
-        spot.from.saturating_add(by)
-    }
-}
-
-fn outwards(up: bool, spot: Spot, by: u32) -> u32 {
-    if up {
-        spot.to.saturating_add(by)
-    } else {
-        spot.from.saturating_sub(by)
-    }
-}
-
-// Signals up stand above the line and those down below it: on the left, as a train goes.
-fn beside(up: bool, spot: Spot, by: u32) -> u32 {
-    if up {
-        spot.y.saturating_sub(by)
-    } else {
-        spot.y.saturating_add(by)
-    }
-}
+type Place = (u32, u32);
 
 // A line through three places.
-fn stroke(
-    heap: Global,
-    out: &mut String,
-    xs: (u32, u32, u32),
-    ys: (u32, u32, u32),
-    style: &str,
-) -> Result<(), AllocError> {
-    let (a, b, c) = xs;
-    let (d, e, f) = ys;
-    let line = format!(in heap; "<polyline points='{a},{d} {b},{e} {c},{f}' {style}/>\n")?;
-    out.push_str(&line)
+// Each sign has a style of its own, so a struct of `out` and `style` would be made anew for each.
+fn stroke(out: &mut String, places: [Place; 3], style: &str) -> Result<(), AllocError> {
+    let [(a, b), (c, d), (e, f)] = places;
+    writeln!(out, "<polyline points='{a},{b} {c},{d} {e},{f}' {style}/>")
 }
 
-fn disc(heap: Global, out: &mut String, x: u32, y: u32, style: &str) -> Result<(), AllocError> {
-    let ring = format!(in heap; "<circle cx='{x}' cy='{y}' {style}/>\n")?;
-    out.push_str(&ring)
+// Through a tip, from as far above it as below: the head of an arrow, or an upright stroke where all three stand at one x.
+fn bent(out: &mut String, x: u32, tip: Place, by: u32, style: &str) -> Result<(), AllocError> {
+    let (_, y) = tip;
+    let places = [(x, y.saturating_sub(by)), tip, (x, y.saturating_add(by))];
+    stroke(out, places, style)
 }
 
-// A train is a box on the line.
-pub fn train(heap: Global, out: &mut String, spot: Spot) -> Result<(), AllocError> {
-    let x = middle(spot).saturating_sub(20);
-    let y = spot.y.saturating_sub(8);
-    let shape = format!(in heap;
-        "<rect x='{x}' y='{y}' width='40' height='16' rx='3' fill='#b00' stroke='black' stroke-width='2'/>\n"
-    )?;
-    out.push_str(&shape)
+fn disc(out: &mut String, centre: Place, style: &str) -> Result<(), AllocError> {
+    let (x, y) = centre;
+    writeln!(out, "<circle cx='{x}' cy='{y}' {style}/>")
 }
 
-pub fn signal(
-    heap: Global,
-    out: &mut String,
-    up: bool,
-    light: Light,
-    spot: Spot,
-) -> Result<(), AllocError> {
-    match light {
-        Light::Absent => Ok(()),
-        Light::Stop => stop(heap, out, up, spot),
-        Light::Proceed => proceed(heap, out, up, spot),
+impl Spot {
+    pub fn middle(self) -> u32 {
+        self.from / 2 + self.to / 2
     }
-}
 
-// How far in from its end a signal stands, so that a way that parts there does not cross it.
-const INWARDS: u32 = 11;
+    pub fn end(self, up: bool) -> LineEnd {
+        LineEnd { spot: self, up }
+    }
 
-fn mast(heap: Global, out: &mut String, up: bool, spot: Spot) -> Result<(), AllocError> {
-    let x = inwards(up, spot, INWARDS);
-    let top = beside(up, spot, 22);
-    let ys = (spot.y, top, top);
-    stroke(heap, out, (x, x, x), ys, "stroke='black' stroke-width='2'")
-}
-
-// A disc with a bar across.
-fn stop(heap: Global, out: &mut String, up: bool, spot: Spot) -> Result<(), AllocError> {
-    mast(heap, out, up, spot)?;
-    let x = inwards(up, spot, INWARDS);
-    let y = beside(up, spot, 24);
-    disc(heap, out, x, y, "r='8' fill='#d00' stroke='black'")?;
-    let xs = (x.saturating_sub(4), x, x.saturating_add(4));
-    stroke(heap, out, xs, (y, y, y), "stroke='white' stroke-width='3'")
-}
-
-// An arrow the way that the train may go.
-fn proceed(heap: Global, out: &mut String, up: bool, spot: Spot) -> Result<(), AllocError> {
-    mast(heap, out, up, spot)?;
-    let back = inwards(up, spot, INWARDS + 8);
-    let y = beside(up, spot, 24);
-    let xs = (back, inwards(up, spot, 1), back);
-    let ys = (y.saturating_sub(8), y, y.saturating_add(8));
-    stroke(heap, out, xs, ys, "fill='#0a0' stroke='black'")
+    // A train is a box on the line.
+    pub fn train(self, out: &mut String) -> Result<(), AllocError> {
+        let x = self.middle().saturating_sub(20);
+        let y = self.y.saturating_sub(8);
+        writeln!(
+            out,
+            "<rect x='{x}' y='{y}' width='40' height='16' rx='3' fill='#b00' stroke='black' stroke-width='2'/>"
+        )
+    }
 }
 
 fn side(left: bool) -> &'static str {
@@ -130,52 +76,116 @@ fn lie(lies: bool, wants: bool) -> &'static str {
     }
 }
 
-// A ring where the line parts, with the point's number and how it lies.
-pub fn point(
-    heap: Global,
-    out: &mut String,
-    up: bool,
-    q: u16,
-    lies: bool,
-    wants: bool,
-    spot: Spot,
-) -> Result<(), AllocError> {
-    let x = outwards(up, spot, 0);
-    let style = "r='5' fill='white' stroke='black' stroke-width='2'";
-    disc(heap, out, x, spot.y, style)?;
-    let anchor = if up { "end" } else { "start" };
-    let at = inwards(up, spot, 2);
-    // Above the line the section's number has the place next to it.
-    let y = beside(!up, spot, if up { 17 } else { 26 });
-    let how = lie(lies, wants);
-    let text = format!(in heap;
-        "<text x='{at}' y='{y}' text-anchor='{anchor}' font-size='11'>p{q} {how}</text>\n"
-    )?;
-    out.push_str(&text)
-}
+// How far in from its end a signal stands, so that a way that parts there does not cross it.
+const INWARDS: u32 = 11;
 
-// Trains come in and go out here: the line runs on, with an arrow head.
-pub fn edge(heap: Global, out: &mut String, up: bool, spot: Spot) -> Result<(), AllocError> {
-    let y = spot.y;
-    let style = "fill='none' stroke='black' stroke-width='2'";
-    let far = outwards(up, spot, 22);
-    let near = inwards(up, spot, 0);
-    stroke(heap, out, (near, far, far), (y, y, y), style)?;
-    let back = outwards(up, spot, 14);
-    let ys = (y.saturating_sub(6), y, y.saturating_add(6));
-    stroke(heap, out, (back, far, back), ys, style)
-}
+impl LineEnd {
+    // A place further in from the end, and one further out.
+    fn inwards(self, by: u32) -> u32 {
+        if self.up {
+            self.spot.to.saturating_sub(by)
+        } else {
+            self.spot.from.saturating_add(by)
+        }
+    }
 
-// Another section begins here.
-pub fn joint(heap: Global, out: &mut String, up: bool, spot: Spot) -> Result<(), AllocError> {
-    let x = outwards(up, spot, 0);
-    let ys = (spot.y.saturating_sub(6), spot.y, spot.y.saturating_add(6));
-    stroke(heap, out, (x, x, x), ys, "stroke='black'")
-}
+    fn outwards(self, by: u32) -> u32 {
+        if self.up {
+            self.spot.to.saturating_add(by)
+        } else {
+            self.spot.from.saturating_sub(by)
+        }
+    }
 
-// The line stops here.
-pub fn buffer(heap: Global, out: &mut String, up: bool, spot: Spot) -> Result<(), AllocError> {
-    let x = outwards(up, spot, 0);
-    let ys = (spot.y.saturating_sub(10), spot.y, spot.y.saturating_add(10));
-    stroke(heap, out, (x, x, x), ys, "stroke='black' stroke-width='5'")
+    // Signals up stand above the line and those down below it: on the left, as a train goes.
+    fn beside(self, by: u32) -> u32 {
+        if self.up {
+            self.spot.y.saturating_sub(by)
+        } else {
+            self.spot.y.saturating_add(by)
+        }
+    }
+
+    // Where the line ends.
+    fn tip(self) -> Place {
+        (self.outwards(0), self.spot.y)
+    }
+
+    // The signal here, if there is one.
+    pub fn signal(self, out: &mut String, light: Option<Aspect>) -> Result<(), AllocError> {
+        match light {
+            None => Ok(()),
+            Some(Aspect::Stop) => self.stop(out),
+            Some(Aspect::Proceed) => self.proceed(out),
+        }
+    }
+
+    fn mast(self, out: &mut String) -> Result<(), AllocError> {
+        let x = self.inwards(INWARDS);
+        let top = (x, self.beside(22));
+        let style = "stroke='black' stroke-width='2'";
+        stroke(out, [(x, self.spot.y), top, top], style)
+    }
+
+    // A disc with a bar across.
+    fn stop(self, out: &mut String) -> Result<(), AllocError> {
+        self.mast(out)?;
+        let x = self.inwards(INWARDS);
+        let y = self.beside(24);
+        disc(out, (x, y), "r='8' fill='#d00' stroke='black'")?;
+        let bar = [(x.saturating_sub(4), y), (x, y), (x.saturating_add(4), y)];
+        stroke(out, bar, "stroke='white' stroke-width='3'")
+    }
+
+    // An arrow the way that the train may go.
+    fn proceed(self, out: &mut String) -> Result<(), AllocError> {
+        self.mast(out)?;
+        let back = self.inwards(INWARDS + 8);
+        let tip = (self.inwards(1), self.beside(24));
+        bent(out, back, tip, 8, "fill='#0a0' stroke='black'")
+    }
+
+    // A ring where the line parts, with the point's number and how it lies.
+    pub fn point(
+        self,
+        out: &mut String,
+        q: u16,
+        lies: bool,
+        wants: bool,
+    ) -> Result<(), AllocError> {
+        let style = "r='5' fill='white' stroke='black' stroke-width='2'";
+        disc(out, self.tip(), style)?;
+        let anchor = if self.up { "end" } else { "start" };
+        let at = self.inwards(2);
+        // Above the line the section's number has the place next to it.
+        let y = if self.up {
+            self.spot.y.saturating_add(17)
+        } else {
+            self.spot.y.saturating_sub(26)
+        };
+        let how = lie(lies, wants);
+        writeln!(
+            out,
+            "<text x='{at}' y='{y}' text-anchor='{anchor}' font-size='11'>p{q} {how}</text>"
+        )
+    }
+
+    // Trains come in and go out here: the line runs on, with an arrow head.
+    pub fn edge(self, out: &mut String) -> Result<(), AllocError> {
+        let style = "fill='none' stroke='black' stroke-width='2'";
+        let far = (self.outwards(22), self.spot.y);
+        stroke(out, [self.tip(), far, far], style)?;
+        bent(out, self.outwards(14), far, 6, style)
+    }
+
+    // Another section begins here.
+    pub fn joint(self, out: &mut String) -> Result<(), AllocError> {
+        bent(out, self.outwards(0), self.tip(), 6, "stroke='black'")
+    }
+
+    // The line stops here.
+    pub fn buffer(self, out: &mut String) -> Result<(), AllocError> {
+        let style = "stroke='black' stroke-width='5'";
+        bent(out, self.outwards(0), self.tip(), 10, style)
+    }
 }
