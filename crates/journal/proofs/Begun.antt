@@ -1,8 +1,8 @@
 -- Which numbers a journal can begin with.
-use Rattle.std.proofs.Common.{◌≡◌, ℕ, suc, ◌+◌, ◌<◌, ◌≤◌, Bool, true, false, cond, List, [], ◌∷◌, ◌++◌, map, length, get_or, take, drop, set, is_ok, is_err, Ok, Err, vec_items, Result, sym, refl, ap, ◌∙◌, subst, arith}
+use Rattle.std.proofs.Common.{◌≡◌, ℕ, suc, ◌+◌, ◌*◌, min, ◌<◌, ◌≤◌, Bool, true, false, leb, List, [], ◌∷◌, ◌++◌, map, length, get_or, take, drop, set, Ok, Err, vec_items, Result, sym, refl, ap, ◌∙◌, subst, arith}
 use lib.Seq.{take-append-add}
 use Rattle.std.specs.List.{flat_map}
-use Rattle.std.proofs.lemmas.List.{append_assoc, append-nil, drop_all, drop_at, drop-drop, drop-take, get_or_append_left, get_or-map, flat_map_more, length-append, length-drop, length-map, length-take, map-set, take_all, take-append-drop, take-append-le, take_at, take_more, take_more_set, take-take}
+use Rattle.std.proofs.lemmas.List.{append_assoc, append-nil, drop_at, drop-take, get_or_append_left, get_or-map, flat_map_more, length-append, length-map, length-take, map-set, take_all, take-append-drop, take-append-le, take_at, take_more, take_more_set, take-take}
 use Rattle.message.specs.Numbers.{bit}
 use Rattle.message.specs.declared.Message.TheVariants.{Event as EventTold}
 use Rattle.message.proofs.Places.{same_at}
@@ -14,7 +14,7 @@ use Rattle.journal.specs.declared.Entry.{Entry}
 use Rattle.journal.specs.declared.Journal.{Journal}
 use Rattle.journal.specs.declared.read.Refusal.{Refusal}
 use Rattle.journal.specs.declared.read.Refusal.TheVariants.{Memory, Place}
-use Rattle.journal.proofs.Entries.{within_five, within_length}
+use Rattle.journal.proofs.Entries.{within_five}
 
 -- beyond a part that two lists have of the same length
 past : {A : Type 0} (n k : ℕ) (xs ys xs₁ ys₁ : List A) → length xs ≡ n → length xs₁ ≡ n → take (n + k) (xs ++ ys) ≡ take (n + k) (xs₁ ++ ys₁) → take k ys ≡ take k ys₁
@@ -108,7 +108,7 @@ module _ (ls : List Bool) (es : List Entry) (rest : List ℕ) (n place : ℕ) (l
 
 -- how the points lay
 
-none_yet : (ls : List Bool) → journal_numbers ls [] ≡ map bit ls
+pub none_yet : (ls : List Bool) → journal_numbers ls [] ≡ map bit ls
 unfolding journal_numbers
 none_yet ls = append-nil (map bit ls)
 
@@ -145,76 +145,68 @@ points_more ns ls ms i b l o p e f k =
     take_more ns i 0 p ∙ ap (λ (x : ℕ). take i ns ++ x ∷ []) e ∙ ap (λ (x : List ℕ). x ++ bit b ∷ []) k
     ∙ sym (take_more_set (map bit ls) i (bit b) (omega arith)) ∙ ap (take (i + 1)) (sym (map-set bit ls i b) ∙ ap (map bit) (sym f))
 
-pub points_all : (ns : List ℕ) (ls : List Bool) (i : ℕ) → length ls ≡ 32 → i ≡ 32 → take i ns ≡ take i (map bit ls) → take 32 ns ≡ map bit ls
-points_all ns ls i l o e =
-    let z = length-map ls bit in
-    ap (λ (k : ℕ). take k ns) (sym o) ∙ e ∙ ap (λ (k : ℕ). take k (map bit ls)) o ∙ take_all 32 (map bit ls) (omega arith)
+pub points_there : (ns : List ℕ) (ls : List Bool) → (length ls ≡ 32) × (take 32 ns ≡ map bit ls) → 32 ≤ length ns
+points_there ns ls (l, e) = let a = ap length e in let b = length-take 32 ns in let c = bits_long ls l in omega arith
 
 -- what is read so far
 
--- a journal that was read, and the numbers that follow
-pub record SoFar (ns : List ℕ) (ls : List Bool) (es : List Entry) (at : ℕ) : Type 0 where
-  pub lies : length ls ≡ 32
-  pub at_is : at ≡ length (journal_numbers ls es)
-  pub so : ns ≡ journal_numbers ls es ++ drop at ns
+rows_long : (es : List Entry) → length (flat_map entry_numbers es) ≡ 5 * length es
+rows_long [] = refl
+rows_long (e ∷ es) =
+    let a = length-append (entry_numbers e) (flat_map entry_numbers es) in let b = rows_long es in
+    let z : length (entry_numbers e) ≡ 5 = refl in omega arith
 
-pub so_none : (ns : List ℕ) (ls ms : List Bool) (es : List Entry) → length ls ≡ 32 → take 32 ns ≡ map bit ls → ms ≡ ls → es ≡ [] → SoFar ns ms es 32
-so_none ns ls ms es l e f g =
+numbers_long : (ls : List Bool) (es : List Entry) → length ls ≡ 32 → length (journal_numbers ls es) ≡ 32 + 5 * length es
+unfolding journal_numbers
+numbers_long ls es l =
+    let a = length-append (map bit ls) (flat_map entry_numbers es) in let b = rows_long es in let c = bits_long ls l in omega arith
+
+-- a journal of n entries that was read, and the numbers that follow
+pub record SoFar (ns : List ℕ) (ls : List Bool) (es : List Entry) (n : ℕ) (rest : List ℕ) : Type 0 where
+  pub lies : length ls ≡ 32
+  pub count : n ≡ length es
+  pub so : ns ≡ journal_numbers ls es ++ rest
+
+pub so_none : (ns : List ℕ) (ls ms : List Bool) (es : List Entry) → (length ls ≡ 32) × (take 32 ns ≡ map bit ls) → ms ≡ ls → es ≡ [] → SoFar ns ms es 0 (drop 32 ns)
+so_none ns ls ms es (l, e) f g =
     let a : journal_numbers ms es ≡ map bit ls = ap (λ (z : List Bool). journal_numbers z es) f ∙ ap (journal_numbers ls) g ∙ none_yet ls in
-    let b = bits_long ls l in
-    let c = ap length a in
-    let d = ap length f in
+    let b = ap length g in
     record {
-      lies = omega arith;
-      at_is = omega arith;
+      lies = ap length f ∙ l;
+      count = sym b;
       so = sym (take-append-drop 32 ns) ∙ ap (λ (z : List ℕ). z ++ drop 32 ns) (e ∙ sym a);
     }
 
-so_more : (ns : List ℕ) (ls ms : List Bool) (es fs : List Entry) (e : Entry) (at : ℕ) → take 5 (drop at ns) ≡ entry_numbers e → ms ≡ ls → fs ≡ es ++ e ∷ [] → SoFar ns ls es at → SoFar ns ms fs (at + 5)
-so_more ns ls ms es fs e at g f h k =
-    let a : journal_numbers ms fs ≡ journal_numbers ls es ++ entry_numbers e = ap (λ (z : List Bool). journal_numbers z fs) f ∙ numbers_more ls es fs e h in
-    let b = length-append (journal_numbers ls es) (entry_numbers e) in
-    let z : length (entry_numbers e) ≡ 5 = refl in
-    let c = ap length a in
-    let d = ap length f in
-    let l = k.lies in let i = k.at_is in
-    record {
-      lies = omega arith;
-      at_is = omega arith;
-      so =
-          k.so ∙ ap (λ (x : List ℕ). journal_numbers ls es ++ x) (sym (take-append-drop 5 (drop at ns)) ∙ ap (λ (x : List ℕ). x ++ drop 5 (drop at ns)) g ∙ ap (λ (x : List ℕ). entry_numbers e ++ x) (drop-drop 5 at ns))
-          ∙ sym (append_assoc (journal_numbers ls es) (entry_numbers e) (drop (at + 5) ns)) ∙ ap (λ (x : List ℕ). x ++ drop (at + 5) ns) (sym a);
-    }
-
-pub so_all : (ns : List ℕ) (ls : List Bool) (es : List Entry) (at : ℕ) → length ns ≤ at → SoFar ns ls es at → (length ls ≡ 32) × (ns ≡ journal_numbers ls es)
-so_all ns ls es at l k =
-    (k.lies, k.so ∙ ap (λ (z : List ℕ). journal_numbers ls es ++ z) (drop_all at ns l) ∙ append-nil (journal_numbers ls es))
-
 -- five numbers, or as many as there are
-module _ (ns : List ℕ) (at : ℕ) (few : List ℕ) (f : few ≡ take 5 (drop at ns)) where
-  pub entry_there : (e : Entry) → few ≡ entry_numbers e → at + 5 ≤ length ns
-  entry_there e g =
-      let a = ap length (sym f ∙ g) in let b = length-take 5 (drop at ns) in let c = length-drop at ns in
-      let z : length (entry_numbers e) ≡ 5 = refl in omega arith
+module _ (ns : List ℕ) (ls : List Bool) (es : List Entry) (n : ℕ) (few rest later : List ℕ) (k : SoFar ns ls es n rest) (f : rest ≡ few ++ later) where
+  pub so_more : (ms : List Bool) (fs : List Entry) (e : Entry) → few ≡ entry_numbers e → ms ≡ ls → fs ≡ es ++ e ∷ [] → SoFar ns ms fs (n + 1) later
+  so_more ms fs e g h i =
+      let a : journal_numbers ms fs ≡ journal_numbers ls es ++ entry_numbers e = ap (λ (z : List Bool). journal_numbers z fs) h ∙ numbers_more ls es fs e i in
+      let b = ap length i in let c = length-append es (e ∷ []) in let d = k.count in
+      let z : length (e ∷ []) ≡ 1 = refl in
+      record {
+        lies = ap length h ∙ k.lies;
+        count = omega arith;
+        so = k.so ∙ ap (λ (x : List ℕ). journal_numbers ls es ++ x) (f ∙ ap (λ (x : List ℕ). x ++ later) g) ∙ sym (append_assoc (journal_numbers ls es) (entry_numbers e) later) ∙ ap (λ (x : List ℕ). x ++ later) (sym a);
+      }
 
-  pub place_there : (place : ℕ) → at < length ns → FirstWrongEntry few place → at + place ≤ length ns
-  place_there place l w =
-      let a = ap length f in let b = length-take 5 (drop at ns) in let c = length-drop at ns in
-      let o = within_length few place (omega arith) w in omega arith
+  module _ (l : length few ≡ min 5 (length rest)) (place : ℕ) (w : FirstWrongEntry few place) where
+    five : (b : Bool) → leb 5 (length rest) ≡ b → few ≡ take 5 rest
+    five true q = sym (ap (take 5) f ∙ take_at few later 5 (grind arith))
+    five false q =
+        let a = ap length f in let b = length-append few later in
+        let none : later ≡ [] = nothing later (grind arith) in
+        sym (take_all 5 rest (grind arith) ∙ f ∙ ap (λ (x : List ℕ). few ++ x) none ∙ append-nil few)
+      where
+        nothing : (xs : List ℕ) → length xs ≡ 0 → xs ≡ []
+        nothing [] o = refl
+        nothing (x ∷ xs) o = absurd (omega arith)
 
-  pub wrong_row : (ls : List Bool) (es : List Entry) (place : ℕ) → at < length ns → SoFar ns ls es at → FirstWrongEntry few place → FirstWrong ns (at + place)
-  wrong_row ls es place l k w =
-      let P : List ℕ → Type 0 = λ z. FirstWrongEntry z place in
-      let c = length-drop at ns in
-      wrong_entry ls es (drop at ns) at place k.lies k.at_is (subst P f w) ns k.so (omega arith)
-
-  pub so_row : (ls ms : List Bool) (es fs : List Entry) (e : Entry) → few ≡ entry_numbers e → ms ≡ ls → fs ≡ es ++ e ∷ [] → SoFar ns ls es at → SoFar ns ms fs (at + 5)
-  so_row ls ms es fs e g h i k = so_more ns ls ms es fs e at (sym f ∙ g) h i k
-
--- what was kept
-pub kept : {X Y : Type 0} (r : Result X Y) (xs ys zs : List Entry) → false ≡ is_err r → xs ≡ cond (is_ok r) ys zs → xs ≡ ys
-kept (Ok x) xs ys zs e f = f
-kept (Err y) xs ys zs e f = absurd (grind arith)
+    pub wrong_row : 0 < length rest → FirstWrong ns (32 + 5 * n + place)
+    wrong_row p =
+        let P : List ℕ → Type 0 = λ z. FirstWrongEntry z place in let q = k.count in
+        let c = numbers_long ls es k.lies in
+        wrong_entry ls es rest (32 + 5 * n) place k.lies (omega arith) (subst P (five (leb 5 (length rest)) refl) w) ns k.so p
 
 -- no two journals have the same numbers
 

@@ -1,3 +1,2 @@
-pub mod Grown
 pub mod Entries
 pub mod Begun

@@ -40,21 +40,11 @@ impl Entry {
     }
 }
 
-fn bit(left: bool) -> u64
-    ensures { result ≡ bit left }
-{
-    if left { 1 } else { 0 }
-}
-
 // How the points lie, in numbers.
 fn lies_numbers(heap: Global, lies: &[bool]) -> Result<Vec<u64>, AllocError>
     ensures { IfOk result (λ v. v.items ≡ map bit lies.now) }
 {
-    let mut numbers = Vec::new(heap);
-    for i in 0..lies.len() {
-        numbers.push(bit(lies[i]))?;
-    }
-    Ok(numbers)
+    lies.iter().map(|&left| u64::from(left)).collect(heap)
 }
 
 impl Journal {
@@ -78,7 +68,7 @@ impl Journal {
         Ok(())
     }
 
-    // The journal of a run: its events, as many as have an answer, each with its own.
+    // The journal of a run: its events, as many as have an answer, each with its own. A run is given the row of its events, and its answers are a row of their own.
     pub fn of_run(
         heap: Global,
         lies: [bool; 32],
@@ -88,8 +78,8 @@ impl Journal {
         ensures { IfOk result (λ j. (j.lies ≡ lies) × (j.entries.items ≡ paired events.now answers.now)) }
     {
         let mut journal = Journal::new(heap, lies);
-        for i in 0..events.len().min(answers.len()) {
-            journal.keep(events[i], answers[i])?;
+        for (event, done) in events.iter().zip(answers) {
+            journal.keep(*event, *done)?;
         }
         Ok(journal)
     }
@@ -99,8 +89,8 @@ impl Journal {
         ensures { IfOk result (λ v. v.items ≡ journal_numbers self.now.lies self.now.entries.items) }
     {
         let mut numbers = lies_numbers(heap, &self.lies)?;
-        for i in 0..self.entries.len() {
-            numbers.extend_from_slice(&self.entries[i].numbers())?;
+        for entry in &self.entries {
+            numbers.extend_from_slice(&entry.numbers())?;
         }
         Ok(numbers)
     }

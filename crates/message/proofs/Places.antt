@@ -1,5 +1,5 @@
 -- Which numbers a message can begin with.
-use Rattle.std.proofs.Common.{◌≡◌, ℕ, zero, suc, ◌<◌, ◌≤◌, Bool, true, false, leb, List, [], ◌∷◌, length, get_or, take, Some, None, Ok, Err, Option, Result, sym, refl, ap, ◌∙◌, subst, arith}
+use Rattle.std.proofs.Common.{◌≡◌, ℕ, zero, suc, ◌<◌, ◌≤◌, Bool, true, false, leb, List, [], ◌∷◌, length, get_or, take, Some, None, Ok, Err, Option, Result, IsErrAnd, sym, refl, ap, ◌∙◌, subst, arith}
 use Rattle.std.proofs.lemmas.List.{ext_get_or, get_or-take, length-take, take_all}
 use Rattle.interlocking.specs.Says.{kind_of, which_of}
 use Rattle.interlocking.specs.declared.Request.{Request}
@@ -7,8 +7,9 @@ use Rattle.interlocking.specs.declared.Request.TheVariants.{Ask, Clear, Back, Fr
 use Rattle.model.specs.declared.Event.{Event}
 use Rattle.model.specs.declared.Event.TheVariants.{Asked, Turns, Goes, Draws, Reverses, Comes, Leaves}
 use Rattle.message.specs.Numbers.{bit, can_be, first_of, kind_in, last_at, message_in, message_numbers, second_of}
-use Rattle.message.specs.Reads.{Begins, FirstWrong, Missing, ReadBack, Reads, Taken}
+use Rattle.message.specs.Reads.{Begins, FirstWrong, IsRead, Missing, ReadBack, Reads, Taken}
 use Rattle.message.specs.declared.Message.{Message}
+use Rattle.message.specs.declared.WrongAt.{WrongAt}
 use Rattle.message.specs.declared.Message.TheVariants.{Request as RequestTold, Answer as AnswerTold, Event as EventTold}
 use Rattle.message.proofs.Back.{Can, apart, same_numbers}
 
@@ -120,12 +121,12 @@ zero_at place s k = can_zero (last_at place s k)
 
 -- what is read, and where it is refused
 
-pub wrong_0 : (ns : List ℕ) (at : ℕ) → Missing ns 0 0 0 at → FirstWrong ns at
+pub wrong_0 : (ns : List ℕ) (at : WrongAt) → Missing ns 0 0 0 at → FirstWrong ns at.place
 wrong_0 ns at m =
     subst (FirstWrong ns) (sym m.place_is)
     (record { before = (RequestTold Tick, refl); here = never ns 0 0 0 (omega arith) (λ z. absurd (omega arith)) (λ z. absurd (omega arith)) m.cannot })
 
-pub wrong_1 : (ns : List ℕ) (s at : ℕ) → Taken ns 0 0 0 s → Missing ns 1 s 0 at → FirstWrong ns at
+pub wrong_1 : (ns : List ℕ) (s : ℕ) (at : WrongAt) → Taken ns 0 0 0 s → Missing ns 1 s 0 at → FirstWrong ns at.place
 wrong_1 ns s at t m =
     let o = t.there in
     let c : Can s 0 0 0 0 = record { sort = t.can; kind = zero_at 1 s 0; first = zero_at 2 s 0; second = zero_at 3 s 0; done = zero_at 4 s 0 } in
@@ -138,7 +139,7 @@ wrong_1 ns s at t m =
       here = never ns 1 s 0 (omega arith) (λ z. t.is) (λ z. absurd (omega arith)) m.cannot;
     })
 
-pub wrong_2 : (ns : List ℕ) (s k at : ℕ) → Taken ns 0 0 0 s → Taken ns 1 s 0 k → Missing ns 2 s k at → FirstWrong ns at
+pub wrong_2 : (ns : List ℕ) (s k : ℕ) (at : WrongAt) → Taken ns 0 0 0 s → Taken ns 1 s 0 k → Missing ns 2 s k at → FirstWrong ns at.place
 wrong_2 ns s k at t u m =
     let o = u.there in
     let c : Can s k 0 0 0 = record { sort = t.can; kind = u.can; first = zero_at 2 s k; second = zero_at 3 s k; done = zero_at 4 s k } in
@@ -151,7 +152,7 @@ wrong_2 ns s k at t u m =
       here = never ns 2 s k (omega arith) (λ z. t.is) (λ z. u.is) m.cannot;
     })
 
-pub wrong_3 : (ns : List ℕ) (s k a at : ℕ) → Taken ns 0 0 0 s → Taken ns 1 s 0 k → Taken ns 2 s k a → Missing ns 3 s k at → FirstWrong ns at
+pub wrong_3 : (ns : List ℕ) (s k a : ℕ) (at : WrongAt) → Taken ns 0 0 0 s → Taken ns 1 s 0 k → Taken ns 2 s k a → Missing ns 3 s k at → FirstWrong ns at.place
 wrong_3 ns s k a at t u v m =
     let o = v.there in
     let c : Can s k a 0 0 = record { sort = t.can; kind = u.can; first = v.can; second = zero_at 3 s k; done = zero_at 4 s k } in
@@ -164,7 +165,7 @@ wrong_3 ns s k a at t u v m =
       here = never ns 3 s k (omega arith) (λ z. t.is) (λ z. u.is) m.cannot;
     })
 
-pub wrong_4 : (ns : List ℕ) (s k a b at : ℕ) → Taken ns 0 0 0 s → Taken ns 1 s 0 k → Taken ns 2 s k a → Taken ns 3 s k b → Missing ns 4 s k at → FirstWrong ns at
+pub wrong_4 : (ns : List ℕ) (s k a b : ℕ) (at : WrongAt) → Taken ns 0 0 0 s → Taken ns 1 s 0 k → Taken ns 2 s k a → Taken ns 3 s k b → Missing ns 4 s k at → FirstWrong ns at.place
 wrong_4 ns s k a b at t u v w m =
     let o = w.there in
     let c : Can s k a b 0 = record { sort = t.can; kind = u.can; first = v.can; second = w.can; done = zero_at 4 s k } in
@@ -195,16 +196,17 @@ module _ (ns : List ℕ) (s k a b d : ℕ) (t : Taken ns 0 0 0 s) (u : Taken ns 
     here = λ (m, e). longer ns m l e;
   }
 
-pub every : (ns : List ℕ) (r : Result Message ℕ) → Reads ns r → (m : Message) → ns ≡ message_numbers m → r ≡ Ok m
+pub every : (ns : List ℕ) (r : Result Message WrongAt) → Reads ns r → (m : Message) → ns ≡ message_numbers m → r ≡ Ok m
 every ns (Ok n) h m e = ap Ok (apart n m (sym h ∙ e))
-every ns (Err k) h m e = absurd (h.here (m, ap (take (suc k)) e))
+every ns (Err w) h m e = absurd (h.here (m, ap (take (suc w.place)) e))
 
 pub read_back : ReadBack
 read_back = record { apart = apart; same = λ m r h. every (message_numbers m) r h m refl }
 
--- a refusal that is handed on
-pub broken : (ns : List ℕ) (r : Result Message ℕ) (at : ℕ) → FirstWrong ns at → (y : ℕ) × (r ≡ Err y) × (y ≡ at) → Reads ns r
-broken ns r at w (y, e, f) = subst (Reads ns) (sym (e ∙ ap Err f)) w
+pub is_read : (ns : List ℕ) (r : Result Message WrongAt) → Reads ns r → IsRead ns r
+is_read ns r h = record { reads = h; every = every ns r h }
 
-pub as_made : (ns : List ℕ) (m n : Message) → ns ≡ message_numbers n → m ≡ n → ns ≡ message_numbers m
-as_made ns m n h e = h ∙ ap message_numbers (sym e)
+-- a refusal that is handed on
+pub refused : (ns : List ℕ) (r : Result Message WrongAt) (at : WrongAt) → FirstWrong ns at.place → IsErrAnd r (λ y. y ≡ at) → IsRead ns r
+refused ns (Ok m) at w h = absurd h
+refused ns (Err y) at w h = is_read ns (Err y) (subst (λ (z : WrongAt). FirstWrong ns z.place) (sym h) w)

@@ -1,10 +1,9 @@
 // What is told between parts (requests, answers and events), in five numbers, and back.
 #![tactic(auto)]
 
-ghost use Rattle.std.specs.Prelude.{◌≡◌, Ok, MatchResult};
-ghost use Rattle.interlocking.specs.Says.{request_of};
+ghost use Rattle.std.specs.Prelude.{◌≡◌, [], ◌∷◌, MatchResult};
 ghost use Rattle.message.specs.Numbers.{bit, can_be, event_in, first_of, kind_in, last_at, message_in, message_numbers, second_of};
-ghost use Rattle.message.specs.Reads.{Missing, ReadBack, Reads, Taken};
+ghost use Rattle.message.specs.Reads.{IsRead, Missing, ReadBack, Taken};
 
 use interlocking::{Answer, Request};
 use model::Event;
@@ -17,54 +16,30 @@ pub enum Message {
     Event(Event, bool),
 }
 
-fn bit(b: bool) -> u64
-    ensures { result ≡ bit b }
-{
-    if b { 1 } else { 0 }
+// The place of the first number that is wrong.
+#[derive(Debug, Clone, Copy, PartialEq, Eq)]
+pub struct WrongAt {
+    pub place: usize,
 }
 
-// The kinds of requests, and then those of the other events.
-fn kind(event: Event) -> u64
-    ensures { result ≡ kind_in event }
+// An event's kind (those of requests come first), what it is about, and the section where a train comes in.
+fn event_numbers(event: Event) -> [u64; 3]
+    ensures { result ≡ kind_in event ∷ first_of event ∷ second_of event ∷ [] }
 {
     match event {
-        Event::Asked(request) => request.kind(),
-        Event::Turns(_) => 5,
-        Event::Goes(_) => 6,
-        Event::Draws(_) => 7,
-        Event::Reverses(_) => 8,
-        Event::Comes(_, true, _) => 9,
-        Event::Comes(_, false, _) => 10,
-        Event::Leaves(_) => 11,
-    }
-}
-
-// The route, section, point or train that an event is about.
-fn first(event: Event) -> usize
-    ensures { result ≡ first_of event }
-{
-    match event {
-        Event::Asked(request) => request.which(),
-        Event::Turns(q) => q,
-        Event::Goes(i) => i,
-        Event::Draws(i) => i,
-        Event::Reverses(i) => i,
-        Event::Comes(i, _, _) => i,
-        Event::Leaves(i) => i,
-    }
-}
-
-// The section where a train comes in.
-fn second(event: Event) -> usize
-    ensures { result ≡ second_of event }
-{
-    match event {
-        Event::Comes(_, _, x) => x,
-        _ => 0,
+        Event::Asked(request) => [request.kind(), request.which() as u64, 0],
+        Event::Turns(q) => [5, q as u64, 0],
+        Event::Goes(i) => [6, i as u64, 0],
+        Event::Draws(i) => [7, i as u64, 0],
+        Event::Reverses(i) => [8, i as u64, 0],
+        Event::Comes(i, true, x) => [9, i as u64, x as u64],
+        Event::Comes(i, false, x) => [10, i as u64, x as u64],
+        Event::Leaves(i) => [11, i as u64, 0],
     }
 }
 
 impl Message {
+    // A method and no From: <[u64; 5]>::from(message) reads no plainer.
     pub fn numbers(self) -> [u64; 5]
         ensures { result ≡ message_numbers self }
     {
@@ -75,14 +50,17 @@ impl Message {
                 a.request.kind(),
                 a.request.which() as u64,
                 0,
-                bit(a.done),
+                u64::from(a.done),
             ],
-            Message::Event(e, done) => [2, kind(e), first(e) as u64, second(e) as u64, bit(done)],
+            Message::Event(event, done) => {
+                let [kind, first, second] = event_numbers(event);
+                [2, kind, first, second, u64::from(done)]
+            }
         }
     }
 }
 
-// The largest number that can stand at a place of a message of this sort and kind; none: any can.
+// The largest number that can stand at a place of a message of this sort and kind; none: any can. Both are numbers of the format, and not yet known to be a sort and a kind.
 fn last(place: usize, sort: u64, kind: u64) -> Option<u64>
     ensures { result ≡ last_at place sort kind }
 {
@@ -102,39 +80,20 @@ fn last(place: usize, sort: u64, kind: u64) -> Option<u64>
 fn can_be(last: Option<u64>, n: u64) -> bool
     ensures { result ≡ can_be last n }
 {
-    match last {
-        Some(most) => n <= most,
-        None => true,
-    }
+    last.is_none_or(|most| n <= most)
 }
 
 // The number at a place, if one stands there that can.
-fn number_at(numbers: &[u64], place: usize, sort: u64, kind: u64) -> Result<u64, usize>
+fn number_at(numbers: &[u64], place: usize, sort: u64, kind: u64) -> Result<u64, WrongAt>
     ensures { MatchResult result (Taken numbers.now place sort kind) (Missing numbers.now place sort kind) }
 {
-    if place >= numbers.len() {
-        return Err(place);
-    }
-    let n = numbers[place];
-    if can_be(last(place, sort, kind), n) {
-        Ok(n)
-    } else {
-        Err(place)
+    match numbers.get(place) {
+        Some(&n) if can_be(last(place, sort, kind), n) => Ok(n),
+        _ => Err(WrongAt { place }),
     }
 }
 
-fn request(kind: u64, which: usize) -> Request
-    ensures { result ≡ request_of kind which }
-{
-    match kind {
-        0 => Request::Ask(which),
-        1 => Request::Clear(which),
-        2 => Request::Back(which),
-        3 => Request::Free(which),
-        _ => Request::Tick,
-    }
-}
-
+// Any numbers make an event, so there is nothing for a TryFrom to refuse: `number_at` has refused already.
 fn event(kind: u64, first: usize, second: usize) -> Event
     ensures { result ≡ event_in kind first second }
 {
@@ -146,7 +105,7 @@ fn event(kind: u64, first: usize, second: usize) -> Event
         9 => Event::Comes(first, true, second),
         10 => Event::Comes(first, false, second),
         11 => Event::Leaves(first),
-        _ => Event::Asked(request(kind, first)),
+        _ => Event::Asked(Request::of(kind, first)),
     }
 }
 
@@ -156,9 +115,9 @@ fn made(sort: u64, kind: u64, first: u64, second: u64, done: u64) -> Message
     let first = first as usize;
     let done = done == 1;
     match sort {
-        0 => Message::Request(request(kind, first)),
+        0 => Message::Request(Request::of(kind, first)),
         1 => Message::Answer(Answer {
-            request: request(kind, first),
+            request: Request::of(kind, first),
             done,
         }),
         _ => Message::Event(event(kind, first, second as usize), done),
@@ -166,24 +125,25 @@ fn made(sort: u64, kind: u64, first: u64, second: u64, done: u64) -> Message
 }
 
 // The message that has these numbers, or the first place that no message can have so.
-pub fn read(numbers: &[u64]) -> Result<Message, usize>
-    ensures reads { Reads numbers.now result }
-    ensures every { (m : Message) → numbers.now ≡ message_numbers m → result ≡ Ok m }
-{
-    let sort = number_at(numbers, 0, 0, 0)?;
-    let kind = number_at(numbers, 1, sort, 0)?;
-    let first = number_at(numbers, 2, sort, kind)?;
-    let second = number_at(numbers, 3, sort, kind)?;
-    let done = number_at(numbers, 4, sort, kind)?;
-    if numbers.len() > 5 {
-        return Err(5);
+impl TryFrom<&[u64]> for Message {
+    type Error = WrongAt;
+
+    ghost try_from_gives = { λ numbers. IsRead numbers.now };
+
+    fn try_from(numbers: &[u64]) -> Result<Message, WrongAt> {
+        let sort = number_at(numbers, 0, 0, 0)?;
+        let kind = number_at(numbers, 1, sort, 0)?;
+        let first = number_at(numbers, 2, sort, kind)?;
+        let second = number_at(numbers, 3, sort, kind)?;
+        let done = number_at(numbers, 4, sort, kind)?;
+        if numbers.len() > 5 {
+            return Err(WrongAt { place: 5 });
+        }
+        Ok(made(sort, kind, first, second, done))
     }
-    Ok(made(sort, kind, first, second, done))
 }
 
 // No two messages have the same numbers, so what is written is read back the same.
-pub fn read_back_holds() -> u8
+pub fn read_back_holds()
     ensures { ReadBack }
-{
-    0
-}
+{}

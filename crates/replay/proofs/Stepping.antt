@@ -1,6 +1,6 @@
 -- One more entry, and a whole replay.
-use Rattle.std.proofs.Common.{◌≡◌, ℕ, ◌+◌, ◌<◌, min, Bool, true, false, leb, List, [], ◌∷◌, ◌++◌, length, get_or, take, is_some, Some, None, Ok, Err, Option, Result, sym, refl, ap, ◌∙◌, subst, arith}
-use Rattle.std.proofs.lemmas.List.{get_or-map, get_or_read, length-map, length-take, take_all, take_more}
+use Rattle.std.proofs.Common.{◌≡◌, ℕ, ◌+◌, ◌<◌, min, Bool, false, List, [], ◌∷◌, ◌++◌, length, get_or, take, is_some, Some, None, Ok, Err, Option, Result, IsErrAnd, sym, refl, ap, ◌∙◌, subst, arith}
+use Rattle.std.proofs.lemmas.List.{get_or-map, get_or_read, length-map, length-take, take_min, take_more}
 use Rattle.plan.specs.Plan.{Plan, Positions}
 use Rattle.plan.specs.Numbers.{plan_in, refused}
 use Rattle.model.specs.World.{World, empty_station}
@@ -13,7 +13,7 @@ use Rattle.safety.specs.Promised.{Promised}
 use Rattle.safety.proofs.Promised.{promised}
 use Rattle.journal.specs.Entries.{answers_of, events_of}
 use Rattle.journal.specs.declared.Entry.{Entry}
-use Rattle.replay.specs.Replayed.{FirstFalse, Nexts, no_entry, RefusedRightly, Refuses, Replayed, Replays, Stands, Stays, Stepped, world_at}
+use Rattle.replay.specs.Replayed.{Nexts, no_entry, RefusedRightly, Refuses, Replayed, Replays, Stands, Stepped}
 use Rattle.replay.specs.declared.Wrong.{Wrong}
 use Rattle.replay.specs.declared.Wrong.TheVariants.{Memory, Entry as EntryWrong}
 
@@ -60,58 +60,34 @@ step_run p t es k old at new e s h =
     played_next p p t (events_of es) (take k (answers_of es)) (take at (answers_of es)) old new k e.done row (omega arith) (omega arith) refl
     (subst (λ (x : Event). Told p 16 old new x e.done) ev s.told) h
 
-pub stays_run : (p : Plan) (t : Positions) (es : List Entry) (k : ℕ) (old : World) (at : ℕ) (new : World) → Stays k old at new → Replayed p t es k old → Replayed p t es at new
-stays_run p t es k old at new s h =
-    let P : ℕ → Type 0 = λ n. Replayed p t es n new in let Q : World → Type 0 = λ w. Replayed p t es k w in
-    subst P (sym s.at_is) (subst Q (sym s.world) h)
-
-pub refused_run : (p : Plan) (t : Positions) (es : List Entry) (k : ℕ) (old : World) (at : ℕ) (new : World) (place : ℕ) → Refuses p es k old at new place → Replayed p t es k old →
-    Replayed p t es at new × FirstFalse p t es place
-refused_run p t es k old at new place r h =
-    let l = r.there in
-    let Q : World → Type 0 = λ w. Replayed p t es k w in
-    let w = h.world in (
-      stays_run p t es k old at new r.stays h,
-      subst (FirstFalse p t es) (sym r.place_is)
-          (record {
-            there = l;
-            before = subst Q w h;
-            here = λ z. r.not_own (sym (answer_at es k l) ∙ z ∙ ap (happens p 16 (world_at p t es k)) (event_at es k l) ∙ ap (λ (x : World). happens p 16 x (get_or es k no_entry).event) (sym w));
-          }),
-    )
-
 -- a whole replay
 
 pub moves_on : (p : Plan) (es : List Entry) (k : ℕ) (old : World) (at : ℕ) (new : World) (o : Option Entry) → k < length es → Nexts p es k old at new (Ok o) → at ≡ k + 1
 moves_on p es k old at new None l n = let m = n.0 in absurd (omega arith)
 moves_on p es k old at new (Some e) l n = n.at_is
 
-pub start : (p q : Plan) (t : Positions) (es : List Entry) (at : ℕ) (w : World) → q ≡ p → at ≡ 0 → w ≡ empty_station t → Replayed p t es at w
-start p q t es at w f e h =
+pub start : (p : Plan) (t : Positions) (es : List Entry) (at : ℕ) (w : World) → at ≡ 0 → w ≡ empty_station t → Replayed p t es at w
+start p t es at w e h =
     let P : ℕ → Type 0 = λ n. Replayed p t es n w in
     subst P (sym e) (played_from p t (events_of es) [] w w h (played_start p t (events_of es) [] w refl h))
 
-pub one_more : (p q : Plan) (t : Positions) (es : List Entry) (k : ℕ) (old : World) (at : ℕ) (new : World) {A : Type 0} (r : Result A Wrong) → q ≡ p →
-    (Replayed q t es k old → Replayed q t es at new × RefusedRightly q t es r) → Replayed p t es k old → Replayed p t es at new × RefusedRightly p t es r
-one_more p q t es k old at new {A} r e s h =
+-- what stands of a replay's own plan and entries stands of those that it was given
+pub one_more : (p q : Plan) (t : Positions) (es fs : List Entry) (k : ℕ) (old : World) (at : ℕ) (new : World) {A : Type 0} (r : Result A Wrong) → q ≡ p → fs ≡ es →
+    (Replayed q t fs k old → Replayed q t fs at new × RefusedRightly q t fs r) → Replayed p t es k old → Replayed p t es at new × RefusedRightly p t es r
+one_more p q t es fs k old at new {A} r e f s h =
     let P : Plan → Type 0 = λ x. Replayed x t es k old → Replayed x t es at new × RefusedRightly x t es r in
-    subst P e s h
+    let Q : List Entry → Type 0 = λ z. Replayed q t z k old → Replayed q t z at new × RefusedRightly q t z r in
+    subst P e (subst Q f s) h
 
-pub wrong_within : (p q : Plan) (t : Positions) (es : List Entry) (k upto : ℕ) (old : World) (at : ℕ) (new : World) (w : Wrong) → q ≡ p → k < upto → Nexts q es k old at new (Err w) →
-    Stands q t es k old at new (Err w) → Replayed p t es k old → Replays p t es upto (Err w)
-wrong_within p q t es k upto old at new Memory e l n s h = tt
-wrong_within p q t es k upto old at new (EntryWrong j) e l n s h =
-    let o = n.place_is in (omega arith, (one_more p q t es k old at new {A = Option Entry} (Err (EntryWrong j)) e s h).1)
+pub wrong_within : (p q : Plan) (t : Positions) (es fs : List Entry) (k upto : ℕ) (old : World) (at : ℕ) (new : World) (w : Wrong) → q ≡ p → fs ≡ es → k < upto → Nexts q fs k old at new (Err w) →
+    Stands q t fs k old at new (Err w) → Replayed p t es k old → Replays p t es upto (Err w)
+wrong_within p q t es fs k upto old at new Memory e f l n s h = tt
+wrong_within p q t es fs k upto old at new (EntryWrong j) e f l n s h =
+    let o = n.place_is in (omega arith, (one_more p q t es fs k old at new {A = Option Entry} (Err (EntryWrong j)) e f s h).1)
 
-pub handed_on : (p : Plan) (t : Positions) (es : List Entry) (upto : ℕ) (r : Result Station Wrong) (w : Wrong) → Replays p t es upto (Err w) → (y : Wrong) × (r ≡ Err y) × (y ≡ w) → Replays p t es upto r
-handed_on p t es upto r w k (y, e, f) = subst (Replays p t es upto) (sym (e ∙ ap Err f)) k
-
-take_min : {A : Type 0} (u : ℕ) (xs : List A) → take (min u (length xs)) xs ≡ take u xs
-take_min u xs = go (leb u (length xs)) refl
-  where
-    go : (b : Bool) → leb u (length xs) ≡ b → take (min u (length xs)) xs ≡ take u xs
-    go true q = let e : min u (length xs) ≡ u = grind arith in ap (λ (n : ℕ). take n xs) e
-    go false q = take_all (min u (length xs)) xs (grind arith) ∙ sym (take_all u xs (grind arith))
+pub handed_on : (p : Plan) (t : Positions) (es : List Entry) (upto : ℕ) (r : Result Station Wrong) (w : Wrong) → Replays p t es upto (Err w) → IsErrAnd r (λ y. y ≡ w) → Replays p t es upto r
+handed_on p t es upto (Ok s) w k h = absurd h
+handed_on p t es upto (Err y) w k h = subst (λ (z : Wrong). Replays p t es upto (Err z)) (sym h) k
 
 pub whole : (xs : List ℕ) (q : Plan) (t : Positions) (es : List Entry) (upto at : ℕ) (w : World) → is_some (refused xs) ≡ false → q ≡ plan_in xs → at ≡ min upto (length es) →
     Replayed (plan_in xs) t es at w → (q ≡ plan_in xs) × Promised (plan_in xs) t (events_of es) upto (take upto (answers_of es)) w

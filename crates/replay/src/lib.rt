@@ -1,7 +1,7 @@
 // A journal replayed: the station is stepped through the entries, and one whose answer is not the station's own is refused.
 #![tactic(auto)]
 
-ghost use Rattle.std.specs.Prelude.{◌≡◌, min, List};
+ghost use Rattle.std.specs.Prelude.{◌≡◌, List};
 ghost use Rattle.memory.specs.Memory.{state_in};
 ghost use Rattle.model.specs.Stations.{station_plan, station_world};
 ghost use Rattle.model.specs.World.{after};
@@ -9,27 +9,29 @@ ghost use Rattle.model.specs.declared.Event.{Event as Happening};
 ghost use Rattle.plan.specs.Plan.{marks, Positions};
 ghost use Rattle.plan.specs.View.{plan_of};
 ghost use Rattle.replay.specs.Replayed.{Own, Replays};
+ghost use Rattle.replay.specs.declared.Wrong.TheVariants.{Memory};
 
 use crate::step::Replay;
 use journal::Journal;
 use model::station::Station;
 use plan::view::Plan;
-use std::alloc::Global;
+use std::alloc::{AllocError, Global};
 
 pub mod step;
 
-// Why an entry is not replayed: for want of memory, or its answer is not the station's own.
-#[derive(Clone, Copy)]
+// Why an entry is not replayed: for want of memory, or its answer is not the station's own. No generic type, since clauses name its own cases.
+#[derive(Debug, Clone, Copy, PartialEq, Eq)]
 pub enum Wrong {
     Memory,
     Entry(usize),
 }
 
-// How many entries are replayed.
-fn count(upto: usize, entries: usize) -> usize
-    ensures { result ≡ min upto entries }
-{
-    upto.min(entries)
+impl From<AllocError> for Wrong {
+    ghost from_gives = { λ _ wrong. wrong ≡ Memory };
+
+    fn from(_error: AllocError) -> Wrong {
+        Wrong::Memory
+    }
 }
 
 // The station after the first entries of a journal, as many as asked for or as there are.
@@ -41,12 +43,9 @@ pub fn replay<'a>(
 ) -> Result<Station<'a>, Wrong>
     ensures { Replays (plan_of plan.entry) (marks journal.now.lies) journal.now.entries.items upto result }
 {
-    let Ok(mut replay) = Replay::new(heap, plan, journal.lies) else {
-        return Err(Wrong::Memory);
-    };
-    let n = count(upto, journal.entries.len());
-    while replay.at < n {
-        replay.next(journal)?;
+    let mut replay = Replay::new(heap, plan, journal)?;
+    for _ in 0..upto.min(journal.entries.len()) {
+        replay.next()?;
     }
     Ok(replay.station)
 }
@@ -62,8 +61,6 @@ pub fn memory_of(station: &Station<'_>) -> [u16; 224]
 }
 
 // Of every run, the journal of it replays with no refusal, and the world after each entry is the run's own.
-pub fn own_holds() -> u8
+pub fn own_holds()
     ensures { Own }
-{
-    0
-}
+{}

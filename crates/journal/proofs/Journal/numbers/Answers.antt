@@ -1,20 +1,20 @@
-use Rattle.std.proofs.Common.{ℕ, List, ◌++◌, vec_items, ap, arith}
-use Rattle.std.specs.List.{flat_map}
+use Rattle.std.proofs.Common.{◌≡◌, ℕ, ◌+◌, ◌<◌, Bool, List, [], ◌∷◌, ◌++◌, length, get_or, take, sym, ap, ◌∙◌}
+use Rattle.std.proofs.lemmas.List.{take_more}
 use Rattle.journal.specs.Entries.{entry_numbers, journal_numbers}
-use Rattle.journal.proofs.Grown.{rows_all, rows_more}
+use Rattle.journal.specs.declared.Entry.{Entry}
+use Rattle.journal.proofs.Begun.{none_yet, numbers_more}
 use Rattle.journal.proofs.Journal.numbers.Goals as goal
 
-pub loop-i-init : goal.loop-i-init
-unfolding journal_numbers
-loop-i-init c = ap (λ (z : List ℕ). z ++ flat_map entry_numbers (vec_items c.args.self.now.entries)) c.in_ok-numbers.ensures
+pub loop-entry-init : goal.loop-entry-init
+loop-entry-init c = c.in_ok-numbers.ensures ∙ sym (none_yet c.args.self.now.lies)
 
-pub loop-i-preserved : goal.loop-i-preserved
-loop-i-preserved c =
-    let es = vec_items c.args.self.now.entries in let e = c.index.result.now in let v = vec_items c.loop-i.numbers in
-    rows_more v (vec_items c.extend_from_slice.new.self) c.numbers.result es c.loop-i.i e e (journal_numbers c.args.self.now.lies es)
-    (omega (arith, c.len-i-end.ensures, c.loop-i-test.true, c.args.self.now.entries.ok.0)) c.index.ensures c.in_ok-extend_from_slice.ensures.items c.numbers.ensures c.loop-i.invariant
+more : (ls : List Bool) (es items : List Entry) (i : ℕ) (d : Entry) (v w n : List ℕ) → items ≡ es → i < length items → n ≡ entry_numbers (get_or items i d) → w ≡ v ++ n →
+    v ≡ journal_numbers ls (take i es) → w ≡ journal_numbers ls (take (i + 1) es)
+more ls es items i d v w n e l g h k =
+    h ∙ ap (λ z. z ++ n) k ∙ ap (λ z. journal_numbers ls (take i es) ++ z) g
+    ∙ sym (numbers_more ls (take i es) (take (i + 1) es) (get_or items i d) (ap (λ z. take (i + 1) z) (sym e) ∙ take_more items i d l ∙ ap (λ z. take i z ++ get_or items i d ∷ []) e))
 
-pub returns : goal.returns
-returns c =
-    let es = vec_items c.args.self.now.entries in
-    rows_all (vec_items c.loop-i.numbers) es c.loop-i.i (journal_numbers c.args.self.now.lies es) (omega (arith, c.len-i-end.ensures, c.args.self.now.entries.ok.0)) c.loop-i.invariant
+pub loop-entry-preserved : goal.loop-entry-preserved
+loop-entry-preserved c =
+    more c.args.self.now.lies _ c.deref-entry-items.result.now c.loop-entry.entry-index _ _ _ c.numbers.result c.deref-entry-items.ensures.value c.loop-entry-test.true c.numbers.ensures
+    c.in_ok-extend_from_slice.ensures.items c.loop-entry.invariant

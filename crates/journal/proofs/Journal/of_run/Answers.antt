@@ -1,19 +1,32 @@
-use Rattle.std.proofs.Common.{vec_items, refl, ◌∙◌, arith}
-use Rattle.journal.proofs.Grown.{pairs_all, pairs_more, pairs_none}
+use Rattle.std.proofs.Common.{◌≡◌, Bool, ◌⊎◌, inl, inr, List, [], ◌∷◌, ◌++◌, refl, sym, ap, ◌∙◌, arith}
+use Rattle.std.proofs.lemmas.List.{append_assoc, append-nil}
+use Rattle.std.proofs.lemmas.Slice.Zip.{Zip-more, either_empty_from_Zip}
+use Rattle.model.specs.declared.Event.{Event}
+use Rattle.journal.specs.Entries.{entry_of, paired}
+use Rattle.journal.specs.declared.Entry.{Entry}
 use Rattle.journal.proofs.Journal.of_run.Goals as goal
 
-pub loop-i-init : goal.loop-i-init
-loop-i-init c = (refl, pairs_none (vec_items c.new-journal.result.entries) c.args.events.now c.args.answers.now c.new-journal.ensures.entries)
+more : (v w all : List Entry) (e : Event) (b : Bool) (es es₁ : List Event) (bs bs₁ : List Bool) → w ≡ v ++ entry_of e b ∷ [] → (es ≡ e ∷ es₁) × (bs ≡ b ∷ bs₁) → v ++ paired es bs ≡ all →
+    w ++ paired es₁ bs₁ ≡ all
+unfolding paired
+more v w all e b es es₁ bs bs₁ h (f, g) k =
+    ap (λ z. z ++ paired es₁ bs₁) h ∙ append_assoc v (entry_of e b ∷ []) (paired es₁ bs₁) ∙ sym (ap (λ z. v ++ paired z bs) f ∙ ap (λ z. v ++ paired (e ∷ es₁) z) g) ∙ k
 
-pub loop-i-preserved : goal.loop-i-preserved
-loop-i-preserved c = (
-  c.in_ok-keep.ensures.lies ∙ c.loop-i.invariant.0,
-  pairs_more (vec_items c.loop-i.journal.entries) (vec_items c.keep.new.self.entries) c.args.events.now c.args.answers.now c.loop-i.i
-      (omega (arith, c.min-i-end.ensures)) (omega (arith, c.min-i-end.ensures)) c.in_ok-keep.ensures.entries c.loop-i.invariant.1,
-)
+none : (es : List Event) (bs : List Bool) → (es ≡ []) ⊎ (bs ≡ []) → paired es bs ≡ []
+unfolding paired
+none [] bs h = refl
+none (e ∷ es) [] h = refl
+none (e ∷ es) (b ∷ bs) (inl h) = absurd (grind arith)
+none (e ∷ es) (b ∷ bs) (inr h) = absurd (grind arith)
+
+pub loop-event-preserved : goal.loop-event-preserved
+loop-event-preserved c = record {
+  lies = c.in_ok-keep.ensures.lies ∙ c.loop-event.invariant.lies;
+  kept = more _ _ _ _ _ _ _ _ _ c.in_ok-keep.ensures.entries (Zip-more c.loop-event.event-iterator c.next.new.self c.next.result _ c.in-Some.is c.next.ensures.steps) c.loop-event.invariant.kept;
+}
 
 pub returns : goal.returns
 returns c = (
-  c.loop-i.invariant.0 ∙ c.new-journal.ensures.lies,
-  pairs_all (vec_items c.loop-i.journal.entries) c.args.events.now c.args.answers.now c.loop-i.i (omega (arith, c.min-i-end.ensures)) c.loop-i.invariant.1,
+  c.loop-event.invariant.lies ∙ c.new-journal.ensures.lies,
+  sym (append-nil _) ∙ ap (λ z. c.loop-event.journal.entries.items ++ z) (sym (none _ _ (either_empty_from_Zip c.loop-event.event-iterator c.next.new.self c.next.result c.in-None.is c.next.ensures.steps))) ∙ c.loop-event.invariant.kept,
 )

@@ -1,32 +1,42 @@
-use Rattle.std.proofs.Common.{vec_items, arith}
-use Rattle.journal.proofs.Begun.{entry_there, kept, place_there, so_all, so_none, so_row, wrong_row}
+use Rattle.std.proofs.Common.{◌≡◌, ◌+◌, ◌-◌, ◌*◌, drop, length, min, ap, sym, subst, ◌∙◌, arith}
+use Rattle.std.proofs.lemmas.List.{length-drop, take_all}
+use Rattle.std.specs.Slice.Iter.{chunks_rest}
+use Rattle.journal.specs.Reads.{FirstWrong}
+use Rattle.journal.proofs.Begun.{SoFar, points_there, so_more, so_none, wrong_row}
 use Rattle.journal.proofs.Journal.read.Goals as goal
 
-pub loop-at-init : goal.loop-at-init
-loop-at-init c =
-    so_none c.args.numbers.now c.in-Ok.lies c.new-journal.result.lies (vec_items c.new-journal.result.entries) c.in-Ok.ensures.0 c.in-Ok.ensures.1 c.new-journal.ensures.lies c.new-journal.ensures.entries
+pub slice_bounds-rows-count : goal.slice_bounds-rows-count
+slice_bounds-rows-count c = points_there _ _ c.in_ok-lies_in.ensures
 
-pub loop-at-preserved : goal.loop-at-preserved
-loop-at-preserved c =
-    so_row c.args.numbers.now c.loop-at.at c.five_at.result.now c.five_at.ensures c.loop-at.journal.lies c.keep.new.self.lies (vec_items c.loop-at.journal.entries)
-    (vec_items c.keep.new.self.entries) c.in-Ok-entry_in.entry c.in-Ok-entry_in.ensures c.keep.ensures.lies (kept c.keep.result _ _ _ c.if-is_err.ensures.value c.keep.ensures.entries) c.loop-at.invariant
+pub slice_bounds-rows-start : goal.slice_bounds-rows-start
+slice_bounds-rows-start c = points_there _ _ c.in_ok-lies_in.ensures
 
-pub loop-at-smaller : goal.loop-at-smaller
-loop-at-smaller c =
-    let l = entry_there c.args.numbers.now c.loop-at.at c.five_at.result.now c.five_at.ensures c.in-Ok-entry_in.entry c.in-Ok-entry_in.ensures in omega arith
+pub loop-i-init : goal.loop-i-init
+loop-i-init c =
+    let ns = c.args.numbers.now in let l = length-drop 32 ns in
+    let whole = take_all (length ns - 32) (drop 32 ns) (omega arith) in
+    let r : chunks_rest c.into_iter-i-iterator.result.iter ≡ drop 32 ns =
+    ap (λ z. chunks_rest z.iter) c.into_iter-i-iterator.ensures.into_iter_gives ∙ ap chunks_rest c.enumerate-i-items.ensures.source ∙ c.chunks.ensures.rest ∙ whole in
+    let n : c.into_iter-i-iterator.result.count ≡ 0 = ap (λ z. z.count) c.into_iter-i-iterator.ensures.into_iter_gives ∙ c.enumerate-i-items.ensures.count in
+    let s = so_none ns _ c.new-journal.result.lies (c.new-journal.result.entries.items) c.in_ok-lies_in.ensures c.new-journal.ensures.lies c.new-journal.ensures.entries in
+    record {
+      size = cc;
+      read = subst (λ z. SoFar ns c.new-journal.result.lies c.new-journal.result.entries.items c.into_iter-i-iterator.result.count z) (sym r)
+          (subst (λ z. SoFar ns c.new-journal.result.lies c.new-journal.result.entries.items z (drop 32 ns)) (sym n) s);
+    }
 
-pub overflow_add-at : goal.overflow_add-at
-overflow_add-at c =
-    let l = entry_there c.args.numbers.now c.loop-at.at c.five_at.result.now c.five_at.ensures c.in-Ok-entry_in.entry c.in-Ok-entry_in.ensures in omega arith
+pub loop-i-preserved : goal.loop-i-preserved
+loop-i-preserved c =
+    let s = c.in-Some.ensures.steps in
+    record {
+      size = s.0.0 ∙ c.loop-i.invariant.size;
+      read = subst (λ z. SoFar c.args.numbers.now c.keep.new.self.lies c.keep.new.self.entries.items z (chunks_rest c.next.new.self.iter)) (sym s.2)
+          (so_more _ _ _ _ c.in-Some.few.now _ _ c.loop-i.invariant.read s.0.1.0 _ _ c.in-Ok.entry c.in-Ok.ensures c.in_ok-keep-in-Ok.ensures.lies c.in_ok-keep-in-Ok.ensures.entries);
+    }
 
-pub overflow_add-result : goal.overflow_add-result
-overflow_add-result c =
-    let l = place_there c.args.numbers.now c.loop-at.at c.five_at.result.now c.five_at.ensures c.in-Err-entry_in.place c.loop-at-test.true c.in-Err-entry_in.ensures in omega arith
-
-pub returns-in-Err-entry_in : goal.returns-in-Err-entry_in
-returns-in-Err-entry_in c =
-    wrong_row c.args.numbers.now c.loop-at.at c.five_at.result.now c.five_at.ensures c.loop-at.journal.lies (vec_items c.loop-at.journal.entries) c.in-Err-entry_in.place c.loop-at-test.true c.loop-at.invariant
-    c.in-Err-entry_in.ensures
-
-pub returns : goal.returns
-returns c = so_all c.args.numbers.now c.loop-at.journal.lies (vec_items c.loop-at.journal.entries) c.loop-at.at (omega arith) c.loop-at.invariant
+pub returns-in-Err : goal.returns-in-Err
+returns-in-Err c =
+    let s = c.in-Some.ensures.steps in
+    let l = s.0.1.1 ∙ ap (λ z. min z (length (chunks_rest c.loop-i.i-iterator.iter))) c.loop-i.invariant.size in
+    subst (λ z. FirstWrong c.args.numbers.now (32 + 5 * z + c.in-Err.wrong.place)) (sym s.1)
+    (wrong_row _ _ _ _ c.in-Some.few.now _ _ c.loop-i.invariant.read s.0.1.0 l c.in-Err.wrong.place c.in-Err.ensures s.0.1.2)
