@@ -1,36 +1,48 @@
 // Journals as texts: how the points lay on the first line, 1 for left, and then a line of five numbers for each entry.
 #![tactic(auto)]
 
+ghost use Rattle.std.specs.Prelude.{◌≡◌};
+ghost use Rattle.ledger.specs.declared.Kind.TheVariants.{Memory};
+
 use journal::read::Refusal;
 use journal::{Entry, Journal};
-use script::EventText;
-use std::alloc::{AllocError, Global};
+use std::alloc::{AllocError, AllocFailed, Global};
 use std::fmt;
+use words::fault::Fault;
 
 // How many numbers the first line has, and each that follows.
 const POINTS: usize = 32;
 
 const ENTRY: usize = 5;
 
-// A line, counted from 1, and what is wrong there.
-#[derive(Clone, Copy)]
-pub struct Fault<'a> {
-    pub line: usize,
-    pub kind: Kind<'a>,
+// What the numbers of a line are.
+#[derive(Clone, Copy, Debug, PartialEq, Eq)]
+pub enum Row {
+    Points,
+    Entry,
 }
 
-#[derive(Clone, Copy)]
+#[derive(Clone, Copy, Debug, PartialEq, Eq)]
 pub enum Kind<'a> {
     // There is no memory to read it.
     Memory,
-    // So many numbers are expected, and something else or nothing more stands there.
-    Numbers(usize, Option<&'a str>),
+    // A row of numbers is expected, and something else or nothing more stands there.
+    Numbers(Row, Option<&'a str>),
     // More stands there than the numbers.
     TooMany(&'a str),
     // A point lay neither left nor right.
     Side(&'a str),
     // No event has this number in this place.
     Number(&'a str, usize),
+}
+
+// As in words: the clause names this enum's own `Memory`, so there is a `From` for each.
+impl<T: Drop> From<AllocFailed<T>> for Kind<'_> {
+    ghost from_gives = { λ _ k. k ≡ Memory };
+
+    fn from(_e: AllocFailed<T>) -> Self {
+        Kind::Memory
+    }
 }
 
 // An entry on a line, whose answer is not the station's own.
@@ -50,20 +62,33 @@ impl Untrue {
     }
 }
 
+impl Row {
+    fn len(self) -> usize {
+        match self {
+            Row::Points => POINTS,
+            Row::Entry => ENTRY,
+        }
+    }
+}
+
+impl fmt::Display for Row {
+    fn fmt<W: fmt::Write>(&self, f: &mut fmt::Formatter<W>) -> fmt::Result {
+        match self {
+            Row::Points => write!(f, "32"),
+            Row::Entry => write!(f, "five"),
+        }
+    }
+}
+
 impl fmt::Display for Kind<'_> {
     fn fmt<W: fmt::Write>(&self, f: &mut fmt::Formatter<W>) -> fmt::Result {
         match self {
             Kind::Memory => write!(f, "no memory is left"),
-            Kind::Numbers(ENTRY, Some(found)) => write!(
+            Kind::Numbers(row, Some(found)) => write!(f, "expected {row} numbers, found '{found}'"),
+            Kind::Numbers(row, None) => write!(
                 f,
-                "expected five numbers, found '{found}'"
+                "expected {row} numbers, found the end of the line"
             ),
-            Kind::Numbers(ENTRY, None) => write!(
-                f,
-                "expected five numbers, found the end of the line"
-            ),
-            Kind::Numbers(n, Some(found)) => write!(f, "expected {n} numbers, found '{found}'"),
-            Kind::Numbers(n, None) => write!(f, "expected {n} numbers, found the end of the line"),
             Kind::TooMany(found) => write!(f, "expected the end of the line, found '{found}'"),
             Kind::Side(found) => write!(f, "expected 0 or 1, found '{found}'"),
             Kind::Number(found, place) => write!(
@@ -74,18 +99,10 @@ impl fmt::Display for Kind<'_> {
     }
 }
 
-impl fmt::Display for Fault<'_> {
-    fn fmt<W: fmt::Write>(&self, f: &mut fmt::Formatter<W>) -> fmt::Result {
-        let line = self.line;
-        let kind = self.kind;
-        write!(f, "line {line}: {kind}")
-    }
-}
-
 impl fmt::Display for Untrue {
     fn fmt<W: fmt::Write>(&self, f: &mut fmt::Formatter<W>) -> fmt::Result {
         let line = self.line;
-        let event = EventText(self.entry.event);
+        let event = self.entry.event;
         if self.entry.done {
             write!(
                 f,
@@ -100,50 +117,47 @@ impl fmt::Display for Untrue {
     }
 }
 
-// Does a line end after the number at a place?
-fn ends_line(place: usize) -> bool {
-    place >= POINTS - 1 && (place - (POINTS - 1)) % ENTRY == 0
-}
-
 // The text of a journal.
 pub fn write(heap: Global, journal: &Journal) -> Result<String, AllocError> {
     let numbers = journal.numbers(heap)?;
+    let (lies, entries) = numbers.split_at(POINTS.min(numbers.len()));
     let mut text = String::new(heap);
-    for (place, n) in numbers.iter().enumerate() {
-        let piece = format!(in heap; "{n}")?;
-        text.push_str(piece.as_str())?;
-        text.push_str(if ends_line(place) { "\n" } else { " " })?;
+    write_line(&mut text, lies)?;
+    for entry in entries.chunks(ENTRY) {
+        write_line(&mut text, entry)?;
     }
     Ok(text)
 }
 
-// A number in digits alone.
-fn number_of(piece: &str) -> Option<u64> {
-    if piece.starts_with("+") {
-        return None;
+fn write_line(text: &mut String, numbers: &[u64]) -> Result<(), AllocError> {
+    let mut gap = "";
+    for n in numbers {
+        write!(text, "{gap}{n}")?;
+        gap = " ";
     }
-    piece.parse::<u64>().ok()
+    text.push_str("\n")
 }
 
-// Takes the numbers of a line, which has to have so many.
-fn take_line<'a>(numbers: &mut Vec<u64>, line: &'a str, expected: usize) -> Result<(), Kind<'a>> {
-    let mut count = 0;
-    for (place, piece) in line.split_whitespace().enumerate() {
-        if place >= expected {
-            return Err(Kind::TooMany(piece));
-        }
-        let Some(n) = number_of(piece) else {
-            return Err(Kind::Numbers(expected, Some(piece)));
-        };
-        if numbers.push(n).is_err() {
-            return Err(Kind::Memory);
-        }
-        count = place.saturating_add(1);
+// A number in digits alone.
+fn number_of(piece: &str) -> Option<u64> {
+    if piece.starts_with('+') {
+        return None;
     }
-    if count < expected {
-        return Err(Kind::Numbers(expected, None));
+    piece.parse().ok()
+}
+
+// Takes the numbers of a line, which has to be such a row.
+fn take_line<'a>(numbers: &mut Vec<u64>, line: &'a str, row: Row) -> Result<(), Kind<'a>> {
+    let mut pieces = line.split_whitespace();
+    for _ in 0..row.len() {
+        let piece = pieces.next().ok_or(Kind::Numbers(row, None))?;
+        let n = number_of(piece).ok_or(Kind::Numbers(row, Some(piece)))?;
+        numbers.push(n)?;
     }
-    Ok(())
+    match pieces.next() {
+        Some(piece) => Err(Kind::TooMany(piece)),
+        None => Ok(()),
+    }
 }
 
 // What stands on a line, counted from 0, at a place of it.
@@ -152,43 +166,36 @@ fn piece_at(text: &str, line: usize, place: usize) -> Option<&str> {
 }
 
 // What is said of the number at a place of a journal.
-fn fault_at(text: &str, place: usize) -> Fault<'_> {
-    if place < POINTS {
-        let kind = match piece_at(text, 0, place) {
-            Some(found) => Kind::Side(found),
-            None => Kind::Numbers(POINTS, None),
-        };
-        return Fault { line: 1, kind };
-    }
-    let entry = (place - POINTS) / ENTRY;
-    let within = (place - POINTS) % ENTRY;
-    let kind = match piece_at(text, entry.saturating_add(1), within) {
-        Some(found) => Kind::Number(found, within.saturating_add(1)),
-        None => Kind::Numbers(ENTRY, None),
+fn fault_at(text: &str, place: usize) -> Fault<Kind<'_>> {
+    let (row, line, within) = match place.checked_sub(POINTS) {
+        None => (Row::Points, 0, place),
+        Some(past) => (Row::Entry, past / ENTRY + 1, past % ENTRY),
+    };
+    let kind = match (piece_at(text, line, within), row) {
+        (None, _) => Kind::Numbers(row, None),
+        (Some(found), Row::Points) => Kind::Side(found),
+        (Some(found), Row::Entry) => Kind::Number(found, within + 1),
     };
     Fault {
-        line: entry.saturating_add(2),
+        line: line + 1,
         kind,
     }
 }
 
 // The journal of a text, or the line that can't be read.
-pub fn read(heap: Global, text: &str) -> Result<Journal, Fault<'_>> {
+pub fn read(heap: Global, text: &str) -> Result<Journal, Fault<Kind<'_>>> {
     let mut numbers = Vec::new(heap);
     let mut last = 0;
     for (i, line) in text.lines().enumerate() {
-        let expected = if i == 0 { POINTS } else { ENTRY };
+        let row = if i == 0 { Row::Points } else { Row::Entry };
         last = i.saturating_add(1);
-        if let Err(kind) = take_line(&mut numbers, line, expected) {
-            return Err(Fault { line: last, kind });
-        }
+        take_line(&mut numbers, line, row).map_err(|kind| Fault { line: last, kind })?;
     }
-    match Journal::read(heap, numbers.as_slice()) {
-        Ok(journal) => Ok(journal),
-        Err(Refusal::Place(place)) => Err(fault_at(text, place)),
-        Err(Refusal::Memory) => Err(Fault {
+    Journal::read(heap, &numbers).map_err(|refusal| match refusal {
+        Refusal::Place(place) => fault_at(text, place),
+        Refusal::Memory => Fault {
             line: last,
             kind: Kind::Memory,
-        }),
-    }
+        },
+    })
 }

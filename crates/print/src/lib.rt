@@ -51,39 +51,28 @@ impl fmt::Display for EndText {
     }
 }
 
-// A piece more, unless there was no memory to make it.
-fn add(text: &mut String, piece: Result<String, AllocError>) -> Result<(), AllocError> {
-    let piece = piece?;
-    text.push_str(piece.as_str())
-}
-
 // The text of a plan: its sections, points, signals, edges and routes, and its time.
 pub fn write_plan(heap: Global, plan: Plan<'_>) -> Result<String, AllocError> {
     let mut text = String::new(heap);
     for x in 0..plan.sections() {
-        write_section(heap, &mut text, plan, x)?;
+        write_section(&mut text, plan, x)?;
     }
     for q in 0..plan.points() {
         let place = plan.place(q);
-        add(&mut text, format!(in heap; "point {q} in {place}\n"))?;
+        write!(text, "point {q} in {place}\n")?;
     }
     for x in 0..plan.sections() {
-        write_marks(heap, &mut text, plan, x)?;
+        write_marks(&mut text, plan, x)?;
     }
     for r in 0..plan.routes() {
-        write_route(heap, &mut text, plan.route(usize::from(r)))?;
+        write_route(&mut text, plan.route(usize::from(r)))?;
     }
     let time = plan.time();
-    add(&mut text, format!(in heap; "time {time}\n"))?;
+    write!(text, "time {time}\n")?;
     Ok(text)
 }
 
-fn write_section(
-    heap: Global,
-    text: &mut String,
-    plan: Plan<'_>,
-    x: u16,
-) -> Result<(), AllocError> {
+fn write_section(text: &mut String, plan: Plan<'_>, x: u16) -> Result<(), AllocError> {
     let sections = plan.sections();
     let up = EndText {
         end: plan.end(true, x),
@@ -93,43 +82,42 @@ fn write_section(
         end: plan.end(false, x),
         sections,
     };
-    add(text, format!(in heap; "section {x} up {up} down {down}\n"))
+    write!(text, "section {x} up {up} down {down}\n")
 }
 
-fn write_marks(heap: Global, text: &mut String, plan: Plan<'_>, x: u16) -> Result<(), AllocError> {
+fn write_marks(text: &mut String, plan: Plan<'_>, x: u16) -> Result<(), AllocError> {
     if plan.signal(true, x) {
-        add(text, format!(in heap; "signal up {x}\n"))?;
+        write!(text, "signal up {x}\n")?;
     }
     if plan.signal(false, x) {
-        add(text, format!(in heap; "signal down {x}\n"))?;
+        write!(text, "signal down {x}\n")?;
     }
     if plan.edge(x) {
-        add(text, format!(in heap; "edge {x}\n"))?;
+        write!(text, "edge {x}\n")?;
     }
     Ok(())
 }
 
-fn write_route(heap: Global, text: &mut String, route: Route<'_>) -> Result<(), AllocError> {
+fn write_route(text: &mut String, route: Route<'_>) -> Result<(), AllocError> {
+    // `plan` has words only for the sides of a point.
     let way = if route.up() { "up" } else { "down" };
     let begin = route.begin();
-    add(text, format!(in heap; "route {way} from {begin} by"))?;
+    write!(text, "route {way} from {begin} by")?;
     for x in route.path() {
-        add(text, format!(in heap; " {x}"))?;
+        write!(text, " {x}")?;
     }
-    write_needs(heap, text, route)?;
+    write_needs(text, route)?;
     text.push_str("\n")
 }
 
 // The needs of a route, if it has some.
-fn write_needs(heap: Global, text: &mut String, route: Route<'_>) -> Result<(), AllocError> {
-    if route.needs() > 0 {
+fn write_needs(text: &mut String, route: Route<'_>) -> Result<(), AllocError> {
+    let mut needs = route.needs().peekable();
+    if needs.peek().is_some() {
         text.push_str(" needs")?;
     }
-    for i in 0..route.needs() {
-        let need = route.need(i);
-        let point = need.point;
-        let side = if need.left { "left" } else { "right" };
-        add(text, format!(in heap; " {point} {side}"))?;
+    for need in needs {
+        write!(text, " {need}")?;
     }
     Ok(())
 }

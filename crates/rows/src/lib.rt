@@ -1,86 +1,27 @@
 // The numbers of a plan's parts, and where they stand.
 #![tactic(auto)]
 
-ghost use Rattle.std.specs.Prelude.{◌≡◌, ◌+◌, ◌*◌, [], ◌∷◌, length, replicate, IfOk};
+ghost use Rattle.std.specs.Prelude.{◌≡◌, ◌+◌, ◌*◌, ◌^◌, ◌<◌, ◌==◌, [], ◌∷◌, length, slice_index, take, IfOk};
 ghost use Rattle.plan.specs.Numbers.{refused};
 ghost use Rattle.plan.specs.Plan.{pick};
-ghost use Rattle.rows.specs.Rows.{bit, closed, ends_in, few, needs_with, numbers_in, NotLength, path_with, put_in, route_in};
+ghost use Rattle.rows.specs.Rows.{closed, ends_in, few, held, needs_in, numbers_in, NotLength, put_in, route_in};
 
 use plan::{End, Need};
 use std::alloc::{AllocError, Global};
 
-// The number of what lies outside.
+// The number of what lies outside: the format of plans has a number there, not an Option.
 pub const OUTSIDE: u16 = 1000;
 
 // A route as it is written.
-#[derive(Clone, Copy)]
+#[derive(Drop)]
 pub struct RouteText {
     pub begin: u16,
     pub up: bool,
-    pub path: Path,
-    pub needs: Needs,
+    pub path: Vec<u16>,
+    pub needs: Vec<Need>,
 }
 
-// How many sections there are, and the first 16 of them.
-#[derive(Clone, Copy)]
-pub struct Path {
-    pub count: u16,
-    pub sections: [u16; 16],
-}
-
-// How many needs there are, and the first 16 of them, each a point and 1 for left.
-#[derive(Clone, Copy)]
-pub struct Needs {
-    pub count: u16,
-    pub pairs: [u16; 32],
-}
-
-impl Path {
-    pub fn none() -> Self
-        ensures { result ≡ record { count = 0; sections = replicate 16 0 } }
-    {
-        Path {
-            count: 0,
-            sections: [0; 16],
-        }
-    }
-
-    // One more section; past the sixteenth it is only counted.
-    pub fn push(&mut self, x: u16)
-        ensures { self.new ≡ path_with self.old x }
-    {
-        let k = usize::from(self.count);
-        self.count = self.count.saturating_add(1);
-        if k < 16 {
-            self.sections[k] = x;
-        }
-    }
-}
-
-impl Needs {
-    pub fn none() -> Self
-        ensures { result ≡ record { count = 0; pairs = replicate 32 0 } }
-    {
-        Needs {
-            count: 0,
-            pairs: [0; 32],
-        }
-    }
-
-    // One more need; past the sixteenth it is only counted.
-    pub fn push(&mut self, need: Need)
-        ensures { self.new ≡ needs_with self.old need }
-    {
-        let k = usize::from(self.count);
-        self.count = self.count.saturating_add(1);
-        if k < 16 {
-            self.pairs[2 * k] = need.point;
-            self.pairs[2 * k + 1] = mark(need.left);
-        }
-    }
-}
-
-// The numbers of a plan's sections, points and routes, each with room for the most.
+// The numbers of a plan's sections, points and routes. Arrays, since sections and points come in any order: a Vec would first have to be filled up to each one's place.
 #[derive(Clone, Copy)]
 pub struct Rows {
     pub sections: [u16; 704],
@@ -88,7 +29,7 @@ pub struct Rows {
     pub routes: [u16; 3328],
 }
 
-// How many there are of each, and the time.
+// How many there are of each, and the time: the text may number more than the arrays have room for.
 #[derive(Clone, Copy)]
 pub struct Sizes {
     pub sections: u16,
@@ -108,22 +49,16 @@ pub fn put(numbers: &mut [u16], k: usize, part: &[u16])
     }
 }
 
-fn mark(yes: bool) -> u16
-    ensures { result ≡ bit yes }
-{
-    if yes { 1 } else { 0 }
-}
-
 // A section's two ends.
 pub fn place_section(rows: &mut [u16], x: u16, up: End, down: End)
     ensures { rows.new ≡ put_in rows.old (11 * x) (ends_in up down) }
 {
     let part = [
-        mark(up.moves),
+        u16::from(up.moves),
         up.point,
         up.on_left,
         up.on_right,
-        mark(down.moves),
+        u16::from(down.moves),
         down.point,
         down.on_left,
         down.on_right,
@@ -151,16 +86,41 @@ pub fn place_point(places: &mut [u16], q: u16, place: u16)
     put(places, usize::from(q), &[place]);
 }
 
-// A route's 52 numbers, in three parts.
-pub fn place_route(routes: &mut [u16], r: u16, route: RouteText)
-    ensures { routes.new ≡ route_in routes.old (52 * r) route }
+// A route's 52 numbers: past the sixteenth, sections and needs are only counted.
+pub fn place_route(routes: &mut [u16], r: u16, route: &RouteText)
+    ensures { routes.new ≡ route_in routes.old (52 * r) route.now }
 {
     let k = 52 * usize::from(r);
-    let up = mark(route.up);
-    let head = [route.begin, up, route.path.count, route.needs.count];
+    let sections = held(route.path.len());
+    let needs = held(route.needs.len());
+    let head = [route.begin, u16::from(route.up), sections, needs];
+    put(routes, k, &[0; 52]);
     put(routes, k, &head);
-    put(routes, k + 4, &route.path.sections);
-    put(routes, k + 20, &route.needs.pairs);
+    put(routes, k + 4, first(&route.path));
+    place_needs(routes, k + 20, first(&route.needs));
+}
+
+fn place_needs(routes: &mut [u16], k: usize, needs: &[Need])
+    requires { k + 2 * length needs.now < 2 ^ 64 }
+    ensures { routes.new ≡ needs_in routes.old k needs.now }
+{
+    for (i, need) in needs.iter().enumerate() {
+        put(routes, k + 2 * i, &[need.point, u16::from(need.left)]);
+    }
+}
+
+// As a number of a plan; what is too large to hold is held as the largest, which no plan may have.
+fn held(n: usize) -> u16
+    ensures { result ≡ held n }
+{
+    u16::try_from(n).unwrap_or(u16::MAX)
+}
+
+// The first 16.
+fn first<T>(all: &[T]) -> &[T]
+    ensures { result.now ≡ take 16 all.now }
+{
+    &all[..all.len().min(16)]
 }
 
 // What lies beyond an end: a number that is no section is outside. Larger ones than outside stay, to be refused.
@@ -176,13 +136,21 @@ fn beyond(x: u16, sections: u16) -> u16
 
 // With what lies beyond the ends of so many sections.
 pub fn close(rows: &mut [u16; 704], sections: u16) {
-    for k in 0..704 {
-        let place = k % 11;
-        let leg = place == 2 || place == 6;
-        let moved_leg = (place == 3 || place == 7) && rows[k - place % 4] == 1;
-        if (leg || moved_leg) && k / 11 < usize::from(sections) {
-            rows[k] = beyond(rows[k], sections);
-        }
+    for row in rows.chunks_exact_mut(11).take(usize::from(sections)) {
+        close_end(&mut row[0..4], sections);
+        close_end(&mut row[4..8], sections);
+    }
+}
+
+// What a point doesn't move has only what lies beyond on its left.
+fn close_end(end: &mut [u16], sections: u16)
+    requires { length end.old ≡ 4 }
+    ensures left { slice_index end.new 2 ≡ closed sections (slice_index end.old 2) }
+    ensures right { slice_index end.new 3 ≡ pick (slice_index end.old 0 == 1) (closed sections (slice_index end.old 3)) (slice_index end.old 3) }
+{
+    end[2] = beyond(end[2], sections);
+    if end[0] == 1 {
+        end[3] = beyond(end[3], sections);
     }
 }
 

@@ -2,7 +2,8 @@
 #![tactic(auto)]
 
 use plan::{End, Need};
-use rows::{Needs, OUTSIDE, Path, RouteText};
+use rows::{OUTSIDE, RouteText};
+use std::alloc::{AllocError, Global};
 use words::cursor::{Cursor, Wrong};
 use words::fault::Expected;
 use words::{Token, Word};
@@ -30,7 +31,7 @@ pub static WORDS: [Word; 16] = [
     Word::Right,
 ];
 
-#[derive(Clone, Copy)]
+#[derive(Drop)]
 pub enum Statement {
     // A section, and what lies beyond its upper end and its lower end.
     Section(u16, End, End),
@@ -44,7 +45,7 @@ pub enum Statement {
 }
 
 // The statement of a line that is not empty, or what is wrong with it.
-pub fn statement_of(tokens: &[Token]) -> Result<Statement, Wrong> {
+pub fn statement_of(heap: Global, tokens: &[Token]) -> Result<Statement, Wrong> {
     let mut cursor = Cursor::new(tokens);
     let wrong = cursor.wrong(Expected::Statement);
     let Some(Token::Word(first)) = cursor.peek() else {
@@ -56,7 +57,7 @@ pub fn statement_of(tokens: &[Token]) -> Result<Statement, Wrong> {
         Word::Point => point(cursor),
         Word::Signal => signal(cursor),
         Word::Edge => edge(cursor),
-        Word::Route => route(cursor),
+        Word::Route => route(heap, cursor),
         Word::Time => time(cursor),
         _ => Err(wrong),
     }
@@ -147,11 +148,12 @@ fn time(mut cursor: Cursor<'_>) -> Result<Statement, Wrong> {
     Ok(Statement::Time(n))
 }
 
-fn route(mut cursor: Cursor<'_>) -> Result<Statement, Wrong> {
+// Only a route's parts need the heap, so it stands beside the cursor and not in it.
+fn route(heap: Global, mut cursor: Cursor<'_>) -> Result<Statement, Wrong> {
     let up = cursor.either(Word::Up, Word::Down, Expected::Way)?;
     let begin = begin_of(&mut cursor)?;
-    let path = path_of(&mut cursor);
-    let needs = last_needs(&mut cursor)?;
+    let path = path_of(heap, &mut cursor)?;
+    let needs = last_needs(heap, &mut cursor)?;
     Ok(Statement::Route(RouteText {
         begin,
         up,
@@ -167,38 +169,30 @@ fn begin_of(cursor: &mut Cursor<'_>) -> Result<u16, Wrong> {
     Ok(begin)
 }
 
-fn path_of(cursor: &mut Cursor<'_>) -> Path {
-    let mut path = Path::none();
-    for _ in 0..cursor.left() {
-        match cursor.number_if() {
-            Some(x) => path.push(x),
-            None => break,
-        }
+fn path_of(heap: Global, cursor: &mut Cursor<'_>) -> Result<Vec<u16>, AllocError> {
+    let mut path = Vec::new(heap);
+    while let Some(x) = cursor.number_if() {
+        path.push(x)?;
     }
-    path
+    Ok(path)
 }
 
 // The needs that end a line, which may have none.
-fn last_needs(cursor: &mut Cursor<'_>) -> Result<Needs, Wrong> {
+fn last_needs(heap: Global, cursor: &mut Cursor<'_>) -> Result<Vec<Need>, Wrong> {
     if !cursor.word_if(Word::Needs) {
         cursor.finish(Expected::Path)?;
-        return Ok(Needs::none());
+        return Ok(Vec::new(heap));
     }
-    let needs = needs_of(cursor)?;
+    let needs = needs_of(heap, cursor)?;
     cursor.finish(Expected::Needs)?;
     Ok(needs)
 }
 
-fn needs_of(cursor: &mut Cursor<'_>) -> Result<Needs, Wrong> {
-    let mut needs = Needs::none();
-    for _ in 0..cursor.left() {
-        match cursor.number_if() {
-            Some(point) => {
-                let left = cursor.either(Word::Left, Word::Right, Expected::Side)?;
-                needs.push(Need { point, left });
-            }
-            None => break,
-        }
+fn needs_of(heap: Global, cursor: &mut Cursor<'_>) -> Result<Vec<Need>, Wrong> {
+    let mut needs = Vec::new(heap);
+    while let Some(point) = cursor.number_if() {
+        let left = cursor.either(Word::Left, Word::Right, Expected::Side)?;
+        needs.push(Need { point, left })?;
     }
     Ok(needs)
 }

@@ -3,106 +3,107 @@ ghost use Rattle.plan.specs.Numbers.{refused};
 ghost use Rattle.rows.specs.Rows.{NotLength};
 ghost use Rattle.std.specs.Prelude.{IfOk};
 
-use plan::End;
 use rows::{RouteText, Rows, Sizes};
-use statement::{NUMBERED, Statement};
+use statement::Statement;
 use std::alloc::{AllocError, Global};
+use std::collections::BTreeMap;
 use words::Word;
-use words::fault::Kind;
+use words::fault::{Fault, Kind};
 
-// Which of a row of things have a line, and which: 0 for none.
-#[derive(Clone, Copy)]
+// The line of each of a row of things, by their numbers.
+#[derive(Drop)]
 pub struct Roll {
-    lines: [usize; 1000],
-    count: u16,
+    lines: BTreeMap<u16, usize>,
 }
 
 // A thing with no line, and the line that shows it.
-#[derive(Clone, Copy)]
+#[derive(Clone, Copy, Debug, PartialEq, Eq)]
 pub struct Gap {
     pub missing: u16,
     pub line: usize,
 }
 
-#[derive(Clone, Copy)]
+// The time, and its line.
+#[derive(Clone, Copy, Debug, PartialEq, Eq)]
+struct Time {
+    time: u16,
+    line: usize,
+}
+
+#[derive(Drop)]
 pub struct Draft {
     sections: Roll,
     points: Roll,
     marked: Roll,
+    // The array of the routes can't say how many there are, since those that it has no room for are counted too.
     routes: u16,
-    time: u16,
-    time_line: usize,
+    time: Option<Time>,
     rows: Rows,
 }
 
 impl Roll {
-    fn new() -> Self {
+    fn new(heap: Global) -> Self {
         Roll {
-            lines: [0; 1000],
-            count: 0,
+            lines: BTreeMap::new(heap),
         }
     }
 
-    // The line of a thing, or 0.
-    fn line(&self, x: u16) -> usize {
-        let k = usize::from(x);
-        if k < 1000 { self.lines[k] } else { 0 }
+    fn line(&self, x: u16) -> Option<usize> {
+        self.lines.get(&x).copied()
     }
 
     // Notes the line of a thing that has none.
-    fn enter(&mut self, x: u16, line: usize) {
-        let k = usize::from(x);
-        if k < 1000 && self.lines[k] == 0 {
-            self.lines[k] = line;
-            self.count = self.count.saturating_add(1);
+    fn enter(&mut self, x: u16, line: usize) -> Result<(), AllocError> {
+        self.lines.entry(x)?.or_insert(line);
+        Ok(())
+    }
+
+    // Notes the line of a thing, which may have only one.
+    fn enter_once<'a>(&mut self, word: Word, x: u16, line: usize) -> Result<(), Kind<'a>> {
+        if let Some(before) = self.line(x) {
+            return Err(Kind::Twice(word, x, before));
         }
+        self.enter(x, line)?;
+        Ok(())
+    }
+
+    fn count(&self) -> u16 {
+        u16::try_from(self.lines.len()).unwrap_or(u16::MAX)
     }
 
     // The first thing that has no line though a later one has.
     fn gap(&self) -> Option<Gap> {
-        let mut missing = None;
-        for k in 0..NUMBERED {
-            let line = self.line(k);
-            match missing {
-                None => {
-                    if line == 0 {
-                        missing = Some(k);
-                    }
-                }
-                Some(missing) => {
-                    if line != 0 {
-                        return Some(Gap { missing, line });
-                    }
-                }
-            }
-        }
-        None
+        self.lines
+            .iter()
+            .zip(0..=u16::MAX)
+            .find(|((x, _), place)| *x != place)
+            .map(|((_, line), missing)| Gap {
+                missing,
+                line: *line,
+            })
     }
 
     // The first line of one that is not in the other.
     fn not_in(&self, other: &Roll) -> Option<Gap> {
-        let mut first = None;
-        let mut least = usize::MAX;
-        for k in 0..NUMBERED {
-            let line = self.line(k);
-            if line != 0 && line < least && other.line(k) == 0 {
-                least = line;
-                first = Some(Gap { missing: k, line });
-            }
-        }
-        first
+        self.lines
+            .iter()
+            .filter(|(x, _)| other.line(**x).is_none())
+            .map(|(x, line)| Gap {
+                missing: *x,
+                line: *line,
+            })
+            .min_by_key(|gap| gap.line)
     }
 }
 
 impl Draft {
-    pub fn new() -> Self {
+    pub fn new(heap: Global) -> Self {
         Draft {
-            sections: Roll::new(),
-            points: Roll::new(),
-            marked: Roll::new(),
+            sections: Roll::new(heap),
+            points: Roll::new(heap),
+            marked: Roll::new(heap),
             routes: 0,
-            time: 0,
-            time_line: 0,
+            time: None,
             rows: Rows {
                 sections: [0; 704],
                 points: [0; 32],
@@ -114,72 +115,54 @@ impl Draft {
     // Takes what a line says, or says what is wrong with it.
     pub fn take<'a>(&mut self, line: usize, statement: Statement) -> Result<(), Kind<'a>> {
         match statement {
-            Statement::Section(x, up, down) => self.section(line, x, up, down),
-            Statement::Point(q, place) => self.point(line, q, place),
+            Statement::Section(x, up, down) => {
+                self.sections.enter_once(Word::Section, x, line)?;
+                rows::place_section(&mut self.rows.sections, x, up, down);
+            }
+            Statement::Point(q, place) => {
+                self.points.enter_once(Word::Point, q, line)?;
+                rows::place_point(&mut self.rows.points, q, place);
+            }
             Statement::Signal(up, x) => {
-                self.marked.enter(x, line);
+                self.marked.enter(x, line)?;
                 rows::place_signal(&mut self.rows.sections, up, x);
-                Ok(())
             }
             Statement::Edge(x) => {
-                self.marked.enter(x, line);
+                self.marked.enter(x, line)?;
                 rows::place_edge(&mut self.rows.sections, x);
-                Ok(())
             }
-            Statement::Route(route) => {
-                self.route(route);
-                Ok(())
-            }
-            Statement::Time(n) => self.set_time(line, n),
+            Statement::Route(route) => self.route(&route),
+            Statement::Time(time) => self.set_time(line, time)?,
         }
-    }
-
-    fn section<'a>(&mut self, line: usize, x: u16, up: End, down: End) -> Result<(), Kind<'a>> {
-        let before = self.sections.line(x);
-        if before != 0 {
-            return Err(Kind::Twice(Word::Section, x, before));
-        }
-        self.sections.enter(x, line);
-        rows::place_section(&mut self.rows.sections, x, up, down);
         Ok(())
     }
 
-    fn point<'a>(&mut self, line: usize, q: u16, place: u16) -> Result<(), Kind<'a>> {
-        let before = self.points.line(q);
-        if before != 0 {
-            return Err(Kind::Twice(Word::Point, q, before));
-        }
-        self.points.enter(q, line);
-        rows::place_point(&mut self.rows.points, q, place);
-        Ok(())
-    }
-
-    fn route(&mut self, route: RouteText) {
+    fn route(&mut self, route: &RouteText) {
         rows::place_route(&mut self.rows.routes, self.routes, route);
         self.routes = self.routes.saturating_add(1);
     }
 
-    fn set_time<'a>(&mut self, line: usize, n: u16) -> Result<(), Kind<'a>> {
-        if self.time_line != 0 {
-            return Err(Kind::Second(self.time_line));
+    fn set_time<'a>(&mut self, line: usize, time: u16) -> Result<(), Kind<'a>> {
+        if let Some(before) = self.time {
+            return Err(Kind::Second(before.line));
         }
-        self.time_line = line;
-        self.time = n;
+        self.time = Some(Time { time, line });
         Ok(())
     }
 
     // The line that shows what is missing, and what is said of it.
-    pub fn missing<'a>(&self) -> Option<(usize, Kind<'a>)> {
-        if let Some(gap) = self.sections.gap() {
-            return Some((gap.line, Kind::Missing(Word::Section, gap.missing)));
-        }
-        if let Some(gap) = self.points.gap() {
-            return Some((gap.line, Kind::Missing(Word::Point, gap.missing)));
-        }
-        match self.marked.not_in(&self.sections) {
-            Some(gap) => Some((gap.line, Kind::NoSection(gap.missing))),
-            None => None,
-        }
+    pub fn missing<'a>(&self) -> Option<Fault<Kind<'a>>> {
+        let gap = |roll: &Roll, word| roll.gap().map(|gap| Fault {
+            line: gap.line,
+            kind: Kind::Missing(word, gap.missing),
+        });
+        let unmarked = self.marked.not_in(&self.sections).map(|gap| Fault {
+            line: gap.line,
+            kind: Kind::NoSection(gap.missing),
+        });
+        gap(&self.sections, Word::Section)
+            .or(gap(&self.points, Word::Point))
+            .or(unmarked)
     }
 
     // The numbers of the plan.
@@ -187,9 +170,9 @@ impl Draft {
         ensures { IfOk result (λ v. NotLength (refused v.items)) }
     {
         let sizes = Sizes {
-            sections: self.sections.count,
-            points: self.points.count,
-            time: self.time,
+            sections: self.sections.count(),
+            points: self.points.count(),
+            time: self.time.map_or(0, |known| known.time),
             routes: self.routes,
         };
         rows::close(&mut self.rows.sections, sizes.sections);

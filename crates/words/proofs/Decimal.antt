@@ -1,15 +1,17 @@
--- A number that is written in digits has no sign.
-use Rattle.std.proofs.Common.{◌≡◌, ℕ, ◌+◌, ◌^◌, ◌<◌, ◌≤◌, List, get_or, decimal, ap, arith}
-use Rattle.std.proofs.lemmas.Fmt.{first_decimal, decimal_digit}
+-- A number that is written out is digits alone.
+use Rattle.std.proofs.Common.{◌≡◌, ℕ, ◌^◌, ◌<◌, ◌&&◌, true, List, [], ◌∷◌, decimal, length, sym, refl, ap, ◌∙◌, arith}
+use Rattle.std.specs.Char.{is_ascii_digit}
+use Rattle.std.specs.List.{list_all}
+use Rattle.std.specs.Str.{all_ascii_digits}
+use Rattle.std.proofs.lemmas.Fmt.{decimal_nonempty, digits_decimal}
+use Rattle.std.proofs.lemmas.Str.Parse.{numerals_by_value, tells_all_ascii_digits}
 
-first : (n : ℕ) → n < 2 ^ 64 → 48 ≤ get_or (decimal n) 0 0
-first n l =
-    let small : n < 10 → 48 ≤ get_or (decimal n) 0 0 = λ h. let e : get_or (decimal n) 0 0 ≡ 48 + n = ap (λ (xs : List ℕ). get_or xs 0 0) (decimal_digit n h) in omega arith in
-    let large : 0 < n → 48 ≤ get_or (decimal n) 0 0 = λ h. let f = first_decimal n h l in omega arith in
-    grind arith
+same : (ds : List ℕ) → all_ascii_digits ds ≡ list_all is_ascii_digit ds
+same [] = refl
+same (c ∷ cs) = ap (λ b. is_ascii_digit c && b) (same cs)
 
-pub no_sign : (n : ℕ) (bs : List ℕ) → n < 2 ^ 16 → bs ≡ decimal n → get_or bs 0 0 ≡ 43 → ⊥
-no_sign n bs l e s =
-    let f = first n (omega arith) in
-    let g : get_or bs 0 0 ≡ get_or (decimal n) 0 0 = ap (λ (xs : List ℕ). get_or xs 0 0) e in
-    omega arith
+pub digits : (n : ℕ) (bs : List ℕ) → n < 2 ^ 16 → bs ≡ decimal n → (0 < length bs) × (list_all is_ascii_digit bs ≡ true)
+digits n bs l e =
+    let small : n < 2 ^ 64 = omega arith in
+    let d = sym (same (decimal n)) ∙ digits_decimal (numerals_by_value _ tells_all_ascii_digits) n small in
+    rw e (decimal_nonempty n small, d)

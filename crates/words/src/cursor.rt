@@ -1,121 +1,123 @@
 // A line's tokens, taken one after the other.
+ghost use Rattle.std.specs.Prelude.{◌≡◌, ◌<◌, ◌≤◌, length, IfSome};
+ghost use Rattle.words.specs.declared.cursor.Wrong.TheVariants.{Memory};
+
 use crate::fault::Expected;
 use crate::{Token, Word, token_of};
-use std::alloc::{AllocError, Global};
+use std::alloc::{AllocError, AllocFailed, Global};
 
-// Which token is wrong, and what should stand there.
-#[derive(Clone, Copy)]
-pub struct Wrong {
-    pub at: usize,
-    pub expected: Expected,
+// Why a line can't be read: no memory is left, or which token is wrong and what should stand there. The cursor's own methods give only the second: a type for that alone would need one more `From`, and `?` reads the same.
+#[derive(Clone, Copy, Debug, PartialEq, Eq)]
+pub enum Wrong {
+    Memory,
+    Token(usize, Expected),
 }
 
-#[derive(Clone, Copy)]
+// The library has two types for want of memory, and `?` takes a `From` for each, whose clause names this enum's own `Memory`.
+impl From<AllocError> for Wrong {
+    ghost from_gives = { λ _ w. w ≡ Memory };
+
+    fn from(_e: AllocError) -> Self {
+        Wrong::Memory
+    }
+}
+
+impl<T: Drop> From<AllocFailed<T>> for Wrong {
+    ghost from_gives = { λ _ w. w ≡ Memory };
+
+    fn from(_e: AllocFailed<T>) -> Self {
+        Wrong::Memory
+    }
+}
+
+// The tokens that are left, of so many: the place of a fault is counted from the first.
+#[derive(Clone, Copy, Debug)]
 pub struct Cursor<'a> {
-    tokens: &'a [Token],
-    at: usize,
+    rest: &'a [Token],
+    count: usize,
+    ghost within: { length rest.now ≤ count },
 }
 
 // What stands before a comment.
 pub fn stated(line: &str) -> &str {
-    match line.split_once('#') {
-        Some((front, _)) => front,
-        None => line,
-    }
+    line.split_once('#').map_or(line, |(front, _)| front)
 }
 
 // The tokens of a line with no comment.
 pub fn tokens(heap: Global, line: &str) -> Result<Vec<Token>, AllocError> {
-    let mut all = Vec::new(heap);
-    for piece in line.split_whitespace() {
-        all.push(token_of(piece))?;
-    }
-    Ok(all)
+    line.split_whitespace().map(token_of).collect(heap)
 }
 
 impl<'a> Cursor<'a> {
-    pub fn new(tokens: &'a [Token]) -> Self {
-        Cursor { tokens, at: 0 }
+    ghost use Rattle.words.specs.Cursor.{left_of};
+
+    pub fn new(tokens: &'a [Token]) -> Self
+        ensures { left_of result ≡ length tokens.now }
+    {
+        Cursor {
+            rest: tokens,
+            count: tokens.len(),
+        }
     }
 
     // The token that comes next.
     pub fn peek(&self) -> Option<Token> {
-        if self.at < self.tokens.len() {
-            Some(self.tokens[self.at])
-        } else {
-            None
-        }
+        self.rest.first().copied()
     }
 
-    pub fn step(&mut self) {
-        if self.at < self.tokens.len() {
-            self.at += 1;
+    pub fn step(&mut self)
+        ensures { left_of self.new ≤ left_of self.old }
+    {
+        if let Some((_, rest)) = self.rest.split_first() {
+            self.rest = rest;
         }
     }
 
     // The fault of the token that comes next.
     pub fn wrong(&self, expected: Expected) -> Wrong {
-        Wrong {
-            at: self.at,
-            expected,
-        }
+        Wrong::Token(self.count - self.rest.len(), expected)
     }
 
     // The number that stands next.
-    pub fn number_if(&mut self) -> Option<u16> {
-        match self.peek() {
-            Some(Token::Number(n)) => {
-                self.step();
-                Some(n)
-            }
-            _ => None,
-        }
+    pub fn number_if(&mut self) -> Option<u16>
+        ensures { IfSome result (λ _. left_of self.new < left_of self.old) }
+    {
+        let Some((&Token::Number(n), rest)) = self.rest.split_first() else {
+            return None;
+        };
+        self.rest = rest;
+        Some(n)
     }
 
     pub fn number(&mut self, expected: Expected) -> Result<u16, Wrong> {
-        match self.number_if() {
-            Some(n) => Ok(n),
-            None => Err(self.wrong(expected)),
-        }
+        self.number_if().ok_or(self.wrong(expected))
     }
 
     // A number below a bound, after a word.
     pub fn below(&mut self, bound: u16, after: Word) -> Result<u16, Wrong> {
-        match self.peek() {
-            Some(Token::Number(n)) => {
-                if n >= bound {
-                    return Err(self.wrong(Expected::Below(bound, after)));
-                }
-                self.step();
-                Ok(n)
-            }
-            _ => Err(self.wrong(Expected::Number(after))),
-        }
+        let too_large = self.wrong(Expected::Below(bound, after));
+        let n = self.number(Expected::Number(after))?;
+        if n < bound { Ok(n) } else { Err(too_large) }
     }
 
     // A number with a colon.
     pub fn label(&mut self) -> Result<u16, Wrong> {
-        match self.peek() {
-            Some(Token::Label(n)) => {
-                self.step();
-                Ok(n)
-            }
-            _ => Err(self.wrong(Expected::Label)),
-        }
+        let Some(Token::Label(n)) = self.peek() else {
+            return Err(self.wrong(Expected::Label));
+        };
+        self.step();
+        Ok(n)
     }
 
     // Does this word stand next? Then it is taken.
-    pub fn word_if(&mut self, word: Word) -> bool {
-        match self.peek() {
-            Some(Token::Word(next)) => {
-                let same = next.is(word);
-                if same {
-                    self.step();
-                }
-                same
-            }
-            _ => false,
+    pub fn word_if(&mut self, word: Word) -> bool
+        ensures { left_of self.new ≤ left_of self.old }
+    {
+        let same = self.peek() == Some(Token::Word(word));
+        if same {
+            self.step();
         }
+        same
     }
 
     pub fn word(&mut self, word: Word) -> Result<(), Wrong> {
@@ -127,7 +129,9 @@ impl<'a> Cursor<'a> {
     }
 
     // One of two words: was it the first?
-    pub fn either(&mut self, first: Word, second: Word, expected: Expected) -> Result<bool, Wrong> {
+    pub fn either(&mut self, first: Word, second: Word, expected: Expected) -> Result<bool, Wrong>
+        ensures { left_of self.new ≤ left_of self.old }
+    {
         if self.word_if(first) {
             Ok(true)
         } else if self.word_if(second) {
@@ -138,20 +142,18 @@ impl<'a> Cursor<'a> {
     }
 
     // How many tokens are left.
-    pub fn left(&self) -> usize {
-        if self.at < self.tokens.len() {
-            self.tokens.len() - self.at
-        } else {
-            0
-        }
+    pub fn left(&self) -> usize
+        ensures { result ≡ left_of self.now }
+    {
+        self.rest.len()
     }
 
     // Nothing stands after what was taken.
     pub fn finish(&self, expected: Expected) -> Result<(), Wrong> {
-        if self.at < self.tokens.len() {
-            Err(self.wrong(expected))
-        } else {
+        if self.rest.is_empty() {
             Ok(())
+        } else {
+            Err(self.wrong(expected))
         }
     }
 }

@@ -1,17 +1,21 @@
 // What is said of a line that can't be read.
+ghost use Rattle.std.specs.Prelude.{◌≡◌};
+ghost use Rattle.words.specs.declared.fault.Kind.TheVariants.{Memory};
+
 use crate::cursor::Wrong;
 use crate::near::nearest;
 use crate::{Word, word_of};
+use std::alloc::{AllocError, AllocFailed};
 use std::fmt;
 
 // A line, counted from 1, and what is wrong there.
-#[derive(Clone, Copy)]
-pub struct Fault<'a> {
+#[derive(Clone, Copy, Debug, PartialEq, Eq, Drop)]
+pub struct Fault<K> {
     pub line: usize,
-    pub kind: Kind<'a>,
+    pub kind: K,
 }
 
-#[derive(Clone, Copy)]
+#[derive(Clone, Copy, Debug, PartialEq, Eq)]
 pub enum Kind<'a> {
     // There is no memory to read it.
     Memory,
@@ -32,7 +36,7 @@ pub enum Kind<'a> {
 }
 
 // What should stand there.
-#[derive(Clone, Copy)]
+#[derive(Clone, Copy, Debug, PartialEq, Eq)]
 pub enum Expected {
     // The first word of a line of a plan.
     Statement,
@@ -59,25 +63,44 @@ pub enum Expected {
 impl Expected {
     // Might a word stand there? Then one that is none may be misspelled.
     fn takes_word(self) -> bool {
-        match self {
-            Expected::Number(_) | Expected::Below(_, _) | Expected::Label | Expected::Nothing =>
-                false,
-            _ => true,
-        }
+        !matches!(
+            self,
+            Expected::Number(_) | Expected::Below(_, _) | Expected::Label | Expected::Nothing
+        )
     }
 }
 
 // What is wrong with the line, in which these are the known words.
 pub fn kind_of<'a>(text: &'a str, wrong: Wrong, known: &[Word]) -> Kind<'a> {
-    let Some(found) = text.split_whitespace().nth(wrong.at) else {
-        return Kind::Expected(wrong.expected, None);
+    let Wrong::Token(at, expected) = wrong else {
+        return Kind::Memory;
     };
-    if wrong.expected.takes_word() && word_of(found).is_none() {
+    let Some(found) = text.split_whitespace().nth(at) else {
+        return Kind::Expected(expected, None);
+    };
+    if expected.takes_word() && word_of(found).is_none() {
         if let Some(word) = nearest(found, known) {
             return Kind::Unknown(found, word);
         }
     }
-    Kind::Expected(wrong.expected, Some(found))
+    Kind::Expected(expected, Some(found))
+}
+
+// The library has two types for want of memory, and `?` takes a `From` for each.
+impl From<AllocError> for Kind<'_> {
+    ghost from_gives = { λ _ k. k ≡ Memory };
+
+    fn from(_e: AllocError) -> Self {
+        Kind::Memory
+    }
+}
+
+impl<T: Drop> From<AllocFailed<T>> for Kind<'_> {
+    ghost from_gives = { λ _ k. k ≡ Memory };
+
+    fn from(_e: AllocFailed<T>) -> Self {
+        Kind::Memory
+    }
 }
 
 impl fmt::Display for Word {
@@ -134,10 +157,10 @@ impl fmt::Display for Kind<'_> {
     }
 }
 
-impl fmt::Display for Fault<'_> {
+impl<K: fmt::Display> fmt::Display for Fault<K> {
     fn fmt<W: fmt::Write>(&self, f: &mut fmt::Formatter<W>) -> fmt::Result {
         let line = self.line;
-        let kind = self.kind;
+        let kind = &self.kind;
         write!(f, "line {line}: {kind}")
     }
 }

@@ -1,7 +1,10 @@
 // Lines of words and numbers: what stands in them, and what is said of a line that can't be read.
 #![tactic(auto)]
 
-ghost use Rattle.std.specs.Prelude.{◌≡◌, ℕ, ◌^◌, ◌<◌, true, IfSome, Some, decimal, slice_index};
+ghost use Rattle.std.specs.Prelude.{◌≡◌, ℕ, ◌^◌, ◌<◌, IfSome, Some, decimal};
+ghost use Rattle.std.specs.Char.{is_ascii_digit};
+ghost use Rattle.std.specs.List.{find, list_all};
+ghost use Rattle.std.specs.Str.{bytes_eq};
 ghost use Rattle.words.specs.Spelled.{spelled};
 
 pub mod cursor;
@@ -9,7 +12,7 @@ pub mod fault;
 pub mod near;
 
 // The words of plans and of events.
-#[derive(Clone, Copy)]
+#[derive(Clone, Copy, Debug, PartialEq, Eq)]
 pub enum Word {
     Section,
     Point,
@@ -42,7 +45,7 @@ pub enum Word {
 }
 
 // One piece of a line: a word, a number, a number with a colon, or anything else.
-#[derive(Clone, Copy)]
+#[derive(Clone, Copy, Debug, PartialEq, Eq)]
 pub enum Token {
     Word(Word),
     Number(u16),
@@ -50,7 +53,40 @@ pub enum Token {
     Other,
 }
 
+// Each word once: no derive of the language lists the cases of an enum.
+static ALL: [Word; 28] = [
+    Word::Section,
+    Word::Point,
+    Word::Signal,
+    Word::Edge,
+    Word::Route,
+    Word::Time,
+    Word::Up,
+    Word::Down,
+    Word::Outside,
+    Word::In,
+    Word::Or,
+    Word::From,
+    Word::By,
+    Word::Needs,
+    Word::Left,
+    Word::Right,
+    Word::Ask,
+    Word::Clear,
+    Word::Back,
+    Word::Free,
+    Word::Tick,
+    Word::Turns,
+    Word::Comes,
+    Word::Goes,
+    Word::Draws,
+    Word::Reverses,
+    Word::Leaves,
+    Word::Lies,
+];
+
 impl Word {
+    // As it is spelled, which no derive of the language prints.
     pub fn name(self) -> &'static str
         ensures { result.now ≡ spelled self }
     {
@@ -87,93 +123,43 @@ impl Word {
     }
 }
 
-impl Word {
-    // Are they the same?
-    pub fn is(self, other: Word) -> bool {
-        self as u8 == other as u8
-    }
-}
-
 // The word that is spelled so.
 pub fn word_of(text: &str) -> Option<Word>
     ensures only { IfSome result (λ w. text.now ≡ spelled w) }
     ensures every { (w : Word) → text.now ≡ spelled w → result ≡ Some w }
 {
-    match text {
-        "section" => Some(Word::Section),
-        "point" => Some(Word::Point),
-        "signal" => Some(Word::Signal),
-        "edge" => Some(Word::Edge),
-        "route" => Some(Word::Route),
-        "time" => Some(Word::Time),
-        "up" => Some(Word::Up),
-        "down" => Some(Word::Down),
-        "outside" => Some(Word::Outside),
-        "in" => Some(Word::In),
-        "or" => Some(Word::Or),
-        "from" => Some(Word::From),
-        "by" => Some(Word::By),
-        "needs" => Some(Word::Needs),
-        "left" => Some(Word::Left),
-        "right" => Some(Word::Right),
-        "ask" => Some(Word::Ask),
-        "clear" => Some(Word::Clear),
-        "back" => Some(Word::Back),
-        "free" => Some(Word::Free),
-        "tick" => Some(Word::Tick),
-        "turns" => Some(Word::Turns),
-        "comes" => Some(Word::Comes),
-        "goes" => Some(Word::Goes),
-        "draws" => Some(Word::Draws),
-        "reverses" => Some(Word::Reverses),
-        "leaves" => Some(Word::Leaves),
-        "lies" => Some(Word::Lies),
-        _ => None,
-    }
+    first_spelled(&ALL, text)
 }
 
-// A number in digits; one that is too large to hold is held as the largest, which no plan may have.
+// The first of these words that is spelled so.
+fn first_spelled(words: &[Word], text: &str) -> Option<Word>
+    ensures first { result ≡ find (λ w. bytes_eq (spelled w) text.now) words.now }
+    ensures only { IfSome result (λ w. text.now ≡ spelled w) }
+{
+    words.iter().copied().find(|word| word.name() == text)
+}
+
+// A number in digits; one that is too large to hold is held as the largest, which no plan may have: it is a number, and is refused as one.
 pub fn number_of(text: &str) -> Option<u16>
     ensures { (n : ℕ) → n < 2 ^ 16 → text.now ≡ decimal n → result ≡ Some n }
 {
     let bytes = text.as_bytes();
-    match text.parse::<u16>() {
-        Ok(n) => if has_sign(bytes) { None } else { Some(n) },
-        Err(_) => if all_digits(bytes) {
-            Some(u16::MAX)
-        } else {
-            None
-        },
+    if bytes.is_empty() || !all_digits(bytes) {
+        return None;
     }
+    Some(text.parse().unwrap_or(u16::MAX))
 }
 
-fn has_sign(bytes: &[u8]) -> bool
-    ensures { result ≡ true → slice_index bytes.now 0 ≡ 43 }
+fn all_digits(bytes: &[u8]) -> bool
+    ensures { result ≡ list_all is_ascii_digit bytes.now }
 {
-    bytes.len() > 0 && bytes[0] == b'+'
-}
-
-fn all_digits(bytes: &[u8]) -> bool {
-    for b in bytes {
-        if !b.is_ascii_digit() {
-            return false;
-        }
-    }
-    bytes.len() > 0
+    bytes.iter().all(|b| b.is_ascii_digit())
 }
 
 pub fn token_of(text: &str) -> Token {
-    if let Some(word) = word_of(text) {
-        return Token::Word(word);
-    }
-    if let Some(n) = number_of(text) {
-        return Token::Number(n);
-    }
-    match text.strip_suffix(':') {
-        Some(front) => match number_of(front) {
-            Some(n) => Token::Label(n),
-            None => Token::Other,
-        },
-        None => Token::Other,
-    }
+    word_of(text)
+        .map(Token::Word)
+        .or_else(|| number_of(text).map(Token::Number))
+        .or_else(|| text.strip_suffix(':').and_then(number_of).map(Token::Label))
+        .unwrap_or(Token::Other)
 }
