@@ -1,23 +1,24 @@
 // The judge, a request and noting on numbers: slices and numbers in, three numbers out. `bridge_c` is the same for programs in C and Rust.
 #![tactic(auto)]
 
-ghost use Rattle.std.specs.Prelude.{◌≡◌, true, Option, Result};
-ghost use Rattle.bridge.specs.Codes.{act_code, note_code, outcome_code, refused_code};
+ghost use Rattle.std.specs.Prelude.{◌≡◌, true, Result};
+ghost use Rattle.bridge.specs.Codes.{act_code, judge_code, note_code, refused_code};
 ghost use Rattle.interlocking.specs.Says.{request_of};
 ghost use Rattle.interlocking.specs.declared.Answer.{Answer};
 ghost use Rattle.memory.specs.Entry.{ActSays, lent_refusal, marked, refusal};
 ghost use Rattle.memory.specs.declared.Refusal.{Refusal as TurnedAway};
 ghost use Rattle.occupancy.specs.Entry.{NoteSays};
 ghost use Rattle.plan.specs.Numbers.{plan_in};
-ghost use Rattle.report.specs.Words.{Says};
-ghost use Rattle.report.specs.declared.Outcome.{Outcome as Said};
+ghost use Rattle.plan.specs.declared.Refusal.{Refusal as NoPlan};
+ghost use Rattle.soundness.specs.Rules.{Judges};
+ghost use Rattle.soundness.specs.declared.Verdict.{Verdict};
 
 use memory::Refusal;
-use report::Outcome;
 use soundness::Verdict;
+use soundness::judge::judge;
 
-// What was answered, and two numbers that say more.
-#[derive(Clone, Copy)]
+// What was answered, and two numbers that say more. A program in C reads it, so it is numbers and no enum.
+#[derive(Clone, Copy, Debug, PartialEq, Eq)]
 #[repr(C)]
 pub struct Code {
     pub what: u64,
@@ -37,29 +38,25 @@ fn refused(refusal: Refusal) -> Code
 
 // 0 for a sound plan; 1, the rule, and the route or 64 for the whole plan; 2, the refusal's number and its place.
 pub fn wonathippu_judge(plan: &[u16]) -> Code
-    ensures { (o : Said) × Says plan.now o × (result ≡ outcome_code o) }
+    ensures { (r : Result Verdict NoPlan) × Judges plan.now r × (result ≡ judge_code r) }
 {
-    match Outcome::of(plan) {
-        Outcome::Judged(Verdict::Sound) => Code {
+    match judge(plan) {
+        Ok(Verdict::Sound) => Code {
             what: 0,
             number: 0,
             place: 0,
         },
-        Outcome::Judged(Verdict::Route(r, rule)) => Code {
+        Ok(Verdict::Route(r, rule)) => Code {
             what: 1,
             number: u64::from(rule.number()),
             place: u64::from(r),
         },
-        Outcome::Judged(Verdict::Whole(rule)) => Code {
+        Ok(Verdict::Whole(rule)) => Code {
             what: 1,
             number: u64::from(rule.number()),
             place: 64,
         },
-        Outcome::Refused(refusal) => Code {
-            what: 2,
-            number: u64::from(refusal.number()),
-            place: refusal.place() as u64,
-        },
+        Err(refusal) => refused(refusal.into()),
     }
 }
 
@@ -86,14 +83,14 @@ pub fn wonathippu_act(
 
 // 1; or 2, the refusal's number and its place.
 pub fn wonathippu_note(plan: &[u16], memory: &mut [u16], seen: &[u8]) -> Code
-    ensures { (a : Option TurnedAway) × NoteSays (lent_refusal plan.now memory.old seen.now true) (plan_in plan.now) (marked seen.now) memory.old a memory.new × (result ≡ note_code a) }
+    ensures { (a : Result Unit TurnedAway) × NoteSays (lent_refusal plan.now memory.old seen.now true) (plan_in plan.now) (marked seen.now) memory.old a memory.new × (result ≡ note_code a) }
 {
     match occupancy::entry::note(plan, memory, seen) {
-        Some(refusal) => refused(refusal),
-        None => Code {
+        Ok(()) => Code {
             what: 1,
             number: 0,
             place: 0,
         },
+        Err(refusal) => refused(refusal),
     }
 }

@@ -1,23 +1,24 @@
 // The judge, a request and noting as a static library for C and Rust: three symbols over `bridge`.
 #![tactic(auto)]
 
-ghost use Rattle.std.specs.Prelude.{◌≡◌, true, Option, Result};
-ghost use Rattle.bridge.specs.Codes.{act_code, note_code, outcome_code};
+ghost use Rattle.std.specs.Prelude.{◌≡◌, true, Result};
+ghost use Rattle.bridge.specs.Codes.{act_code, judge_code, note_code};
 ghost use Rattle.interlocking.specs.Says.{request_of};
 ghost use Rattle.interlocking.specs.declared.Answer.{Answer};
 ghost use Rattle.memory.specs.Entry.{ActSays, lent_refusal, marked, refusal};
 ghost use Rattle.memory.specs.declared.Refusal.{Refusal as TurnedAway};
 ghost use Rattle.occupancy.specs.Entry.{NoteSays};
 ghost use Rattle.plan.specs.Numbers.{plan_in};
-ghost use Rattle.report.specs.Words.{Says};
-ghost use Rattle.report.specs.declared.Outcome.{Outcome as Said};
+ghost use Rattle.plan.specs.declared.Refusal.{Refusal as NoPlan};
+ghost use Rattle.soundness.specs.Rules.{Judges};
+ghost use Rattle.soundness.specs.declared.Verdict.{Verdict};
 
 use bridge::Code;
 
 // 0 for a sound plan; 1, the rule, and the route or 64 for the whole plan; 2, the refusal's number and its place.
 #[unsafe(no_mangle)]
 pub extern "C" fn wonathippu_judge(plan: &[u16]) -> Code
-    ensures { (o : Said) × Says plan.now o × (result ≡ outcome_code o) }
+    ensures { (r : Result Verdict NoPlan) × Judges plan.now r × (result ≡ judge_code r) }
 {
     bridge::wonathippu_judge(plan)
 }
@@ -40,7 +41,7 @@ pub extern "C" fn wonathippu_act(
 // 1; or 2, the refusal's number and its place.
 #[unsafe(no_mangle)]
 pub extern "C" fn wonathippu_note(plan: &[u16], memory: &mut [u16], seen: &[u8]) -> Code
-    ensures { (a : Option TurnedAway) × NoteSays (lent_refusal plan.now memory.old seen.now true) (plan_in plan.now) (marked seen.now) memory.old a memory.new × (result ≡ note_code a) }
+    ensures { (a : Result Unit TurnedAway) × NoteSays (lent_refusal plan.now memory.old seen.now true) (plan_in plan.now) (marked seen.now) memory.old a memory.new × (result ≡ note_code a) }
 {
     bridge::wonathippu_note(plan, memory, seen)
 }

@@ -1,14 +1,11 @@
 // Rows of events played in the example stations, and what each must be answered.
 #![tactic(auto)]
 
-use interlocking::Stage;
-use model::run::Outcome;
-use plan::read::refusal;
 use plan::view::Plan;
 use safety::run::run;
-use script::read_events;
+use script::Script;
 use std::alloc::{AllocError, Global};
-use text::read::read_plan;
+use trial::{in_station, locks, stages};
 
 pub const LOOP: &str = "section 0 up 1 down outside
 section 1 up point 0: 2 or 3 down 0
@@ -37,71 +34,22 @@ route down from 3 by 1 0 needs 0 right
 time 2
 ";
 
-// A route's stage in a word, and one digit for the time that is left.
-fn letter(stage: Stage) -> &'static str {
-    match stage {
-        Stage::Idle => "idle",
-        Stage::Set => "set",
-        Stage::Shown => "shown",
-        Stage::Used => "used",
-        Stage::Falling(_) => "falling",
-    }
-}
-
-// What a run came to, in words: for each event `+` if it was done and `-` if not, and then the stages of the routes that are not idle.
-fn told(heap: Global, outcome: &Outcome<'_>, routes: usize) -> Result<String, AllocError> {
-    let mut said = String::new(heap);
-    for done in outcome.answers.iter() {
-        said.push_str(if *done { "+" } else { "-" })?;
-    }
-    let interlocking = outcome.station.interlocking();
-    for r in 0..routes {
-        let stage = interlocking.stage_of(r);
-        if !stage.is_idle() {
-            let word = letter(stage);
-            let part = format!(in heap; " {r} {word}")?;
-            said.push_str(part.as_str())?;
-        }
-    }
-    Ok(said)
-}
-
-// The locks of the sections, from 0 on: a route's number, or a dot.
-fn locks(heap: Global, outcome: &Outcome<'_>, sections: usize) -> Result<String, AllocError> {
-    let mut said = String::new(heap);
-    let interlocking = outcome.station.interlocking();
-    for x in 0..sections {
-        let lock = interlocking.lock_of(x);
-        if lock == 0 {
-            said.push_str(".")?;
-        } else {
-            let r = lock - 1;
-            let part = format!(in heap; "{r}")?;
-            said.push_str(part.as_str())?;
-        }
-    }
-    Ok(said)
-}
-
-// Plays events in the station of a plan, both given as texts: the answers, the stages, and the locks.
+// Plays events in the station of a plan, both given as texts: for each event `+` if it was done and `-` if not, and then the stages of the routes that are not idle, and the locks.
 pub fn played(heap: Global, plan: &str, events: &str) -> Result<String, AllocError> {
-    let Ok(numbers) = read_plan(heap, plan) else {
-        return String::from_str(heap, "the plan can't be read");
-    };
-    if refusal(numbers.as_slice()).is_some() {
-        return String::from_str(heap, "the plan is refused");
-    }
-    let Ok(script) = read_events(heap, events) else {
-        return String::from_str(heap, "the events can't be read");
-    };
-    let plan = Plan::new(numbers.as_slice());
-    let routes = usize::from(plan.routes());
-    let sections = usize::from(plan.sections());
+    in_station(heap, plan, events, |plan, script| told(heap, plan, script))
+}
+
+fn told(heap: Global, plan: Plan<'_>, script: &Script) -> Result<String, AllocError> {
     let events = script.events.as_slice();
     let outcome = run(heap, plan, script.lies, events, events.len())?;
-    let answers = told(heap, &outcome, routes)?;
-    let held = locks(heap, &outcome, sections)?;
-    format!(in heap; "{answers} {held}")
+    let mut answers = String::new(heap);
+    for done in outcome.answers.iter() {
+        answers.push_str(if *done { "+" } else { "-" })?;
+    }
+    let interlocking = outcome.station.interlocking();
+    let stages = stages(heap, &interlocking, plan.routes())?;
+    let held = locks(heap, &interlocking, plan.sections())?;
+    format!(in heap; "{answers}{stages} {held}")
 }
 
 #[cfg(test)]

@@ -1,44 +1,34 @@
 // A journal replayed: all of it is checked before anything is printed.
-use crate::options::Options;
-use crate::show::{finish, print_after, print_answer};
+use crate::show::Show;
 use anyhow::anyhow;
-use journal::{Entry, Journal};
+use console::{Source, or_said};
+use journal::Journal;
 use ledger::Untrue;
 use model::station::Station;
 use plan::view::Plan;
 use replay::step::Replay;
 use replay::{Wrong, replay};
-use std::io::{BufWriter, Write};
 
 // Steps through the entries, and prints after each what is asked for; false where a promise does not hold.
-fn replay_watched<'a, W: Write>(
-    rt: &HostRuntime,
-    out: &mut W,
+fn replay_watched<'a>(
+    show: &mut Show<'_>,
     plan: Plan<'a>,
     journal: &Journal,
-    options: &Options,
 ) -> anyhow::Result<(Station<'a>, bool)> {
-    let mut replay = Replay::new(rt.alloc(), plan, journal.lies)?;
-    for _ in 0..options.budget.min(journal.entries.len()) {
-        let Ok(Some(entry)) = replay.next(journal) else {
+    let mut replay = Replay::new(show.rt.alloc(), plan, journal)?;
+    for _ in 0..show.options.budget.min(journal.entries.len()) {
+        let Ok(Some(entry)) = replay.next() else {
             return Err(anyhow!("no memory is left"));
         };
-        print_answer(out, entry.event, entry.done)?;
-        if !print_after(rt, out, &replay.station, options)? {
+        show.print_answer(entry.event, entry.done)?;
+        if !show.print_after(&replay.station)? {
             return Ok((replay.station, false));
         }
     }
     Ok((replay.station, true))
 }
 
-fn print_entries<W: Write>(out: &mut W, entries: &[Entry], budget: usize) -> anyhow::Result<()> {
-    for entry in entries.iter().take(budget) {
-        print_answer(out, entry.event, entry.done)?;
-    }
-    Ok(())
-}
-
-// What is said of an entry that could not have happened.
+// What is said of an entry that could not have happened; `scenarios` has it as a text, and what both say is `Untrue`.
 fn say_wrong(rt: &HostRuntime, name: &str, journal: &Journal, wrong: Wrong) -> anyhow::Result<()> {
     if let Wrong::Entry(place) = wrong {
         if let Some(entry) = journal.entries.get(place) {
@@ -50,46 +40,32 @@ fn say_wrong(rt: &HostRuntime, name: &str, journal: &Journal, wrong: Wrong) -> a
     Err(anyhow!("no memory is left"))
 }
 
-// Replays a journal in the station of a plan; false where an answer is not the station's own, a promise does not hold, or the station can't be drawn.
-fn replay_journal(
-    rt: &HostRuntime,
+// Reads a journal and replays it in the station of a plan; false where it can't be read, an answer is not the station's own, a promise does not hold, or the station can't be drawn.
+pub fn replay_text(
+    show: &mut Show<'_>,
     plan: Plan<'_>,
-    name: &str,
-    journal: &Journal,
-    options: &Options,
+    source: &Source<'_>,
 ) -> anyhow::Result<bool> {
-    let last = match replay(rt.alloc(), plan, journal, options.budget) {
+    let read = ledger::read(show.rt.alloc(), source.text.as_str());
+    let Some(journal) = or_said(&show.rt.stderr(), source.name, read)? else {
+        return Ok(false);
+    };
+    let last = match replay(show.rt.alloc(), plan, &journal, show.options.budget) {
         Ok(station) => station,
         Err(wrong) => {
-            say_wrong(rt, name, journal, wrong)?;
+            say_wrong(show.rt, source.name, &journal, wrong)?;
             return Ok(false);
         }
     };
-    let mut out = BufWriter::new(rt.alloc(), rt.stdout())?;
-    let (station, good) = if options.watches() {
-        replay_watched(rt, &mut out, plan, journal, options)?
+    let (station, good) = if show.options.watches() {
+        replay_watched(show, plan, &journal)?
     } else {
-        print_entries(&mut out, journal.entries.as_slice(), options.budget)?;
+        for entry in journal.entries.iter().take(show.options.budget) {
+            show.print_answer(entry.event, entry.done)?;
+        }
         (last, true)
     };
-    out.flush()?;
-    let finished = finish(rt, &station, journal.entries.len(), options)?;
+    show.flush()?;
+    let finished = show.finish(&station, journal.entries.len())?;
     Ok(good && finished)
-}
-
-// Reads a journal and replays it; false where it can't be read, or was not so.
-pub fn replay_text(
-    rt: &HostRuntime,
-    plan: Plan<'_>,
-    name: &str,
-    text: &str,
-    options: &Options,
-) -> anyhow::Result<bool> {
-    match ledger::read(rt.alloc(), text) {
-        Ok(journal) => replay_journal(rt, plan, name, &journal, options),
-        Err(fault) => {
-            eprintln!(rt; "{name}: {fault}")?;
-            Ok(false)
-        }
-    }
 }

@@ -3,49 +3,35 @@
 
 use crate::again::replay_text;
 use crate::options::{Options, USAGE, options_of};
-use crate::show::{finish, print_after, print_answer, write_file};
+use crate::show::Show;
 use anyhow::anyhow;
+use console::{Source, ended, is_sound, or_said, print_verdict, write_file};
 use journal::Journal;
 use model::run::Outcome as Run;
 use model::station::Station;
-use plan::read::refusal;
 use plan::view::Plan;
-use report::Outcome;
 use safety::run::run;
 use script::{Script, read_events};
-use std::io::{BufWriter, Write};
+use std::env;
 use std::process::ExitCode;
-use std::{fs, io};
-use text::read::read_plan;
 
 mod again;
 mod options;
 mod show;
 
-// A text, and the name that stands for it.
-#[derive(Clone, Copy)]
-struct Source<'a> {
-    name: &'a str,
-    text: &'a str,
-}
-
-// Plays events one after the other, and prints after each what is asked for; false where a promise does not hold.
-fn play_watched<'a, W: Write>(
-    rt: &HostRuntime,
-    out: &mut W,
+// Plays events one after the other, and prints after each what is asked for; false where a promise does not hold. Here and below false means that it is said why, and the program ends with status 1.
+fn play_watched<'a>(
+    show: &mut Show<'_>,
     plan: Plan<'a>,
     script: &Script,
-    options: &Options,
 ) -> anyhow::Result<(Run<'a>, bool)> {
-    let mut station = Station::new(rt.alloc(), plan, script.lies)?;
-    let mut answers = Vec::new(rt.alloc());
-    let events = script.events.as_slice();
-    let n = options.budget.min(events.len());
-    for event in events[0..n].iter() {
+    let mut station = Station::new(show.rt.alloc(), plan, script.lies)?;
+    let mut answers = Vec::new(show.rt.alloc());
+    for event in script.events.iter().take(show.options.budget) {
         let done = station.step(*event)?;
         answers.push(done)?;
-        print_answer(out, *event, done)?;
-        if !print_after(rt, out, &station, options)? {
+        show.print_answer(*event, done)?;
+        if !show.print_after(&station)? {
             return Ok((Run { station, answers }, false));
         }
     }
@@ -53,19 +39,18 @@ fn play_watched<'a, W: Write>(
 }
 
 // Plays all events in one run, and prints the answers.
-fn play_all<'a, W: Write>(
-    rt: &HostRuntime,
-    out: &mut W,
+fn play_all<'a>(
+    show: &mut Show<'_>,
     plan: Plan<'a>,
     script: &Script,
-    budget: usize,
-) -> anyhow::Result<Run<'a>> {
+) -> anyhow::Result<(Run<'a>, bool)> {
     let events = script.events.as_slice();
-    let outcome = run(rt.alloc(), plan, script.lies, events, budget)?;
+    let budget = show.options.budget;
+    let outcome = run(show.rt.alloc(), plan, script.lies, events, budget)?;
     for (event, done) in events.iter().zip(outcome.answers.iter()) {
-        print_answer(out, *event, *done)?;
+        show.print_answer(*event, *done)?;
     }
-    Ok(outcome)
+    Ok((outcome, true))
 }
 
 // Writes the journal of a run; false where it can't be written. Its text is made first, so that the file is whole or not begun.
@@ -78,149 +63,68 @@ fn save_journal(
     let events = script.events.as_slice();
     let journal = Journal::of_run(rt.alloc(), script.lies, events, answers)?;
     let text = ledger::write(rt.alloc(), &journal)?;
-    write_file(rt, name, text.as_str())
+    Ok(write_file(rt, name, text.as_str())?)
 }
 
 // Plays a script in the station of a plan; false where a promise does not hold, or a file can't be written.
-fn play(
-    rt: &HostRuntime,
-    plan: Plan<'_>,
-    script: &Script,
-    options: &Options,
-) -> anyhow::Result<bool> {
-    let mut out = BufWriter::new(rt.alloc(), rt.stdout())?;
-    let (outcome, good) = if options.watches() {
-        play_watched(rt, &mut out, plan, script, options)?
+fn play(show: &mut Show<'_>, plan: Plan<'_>, script: &Script) -> anyhow::Result<bool> {
+    let (outcome, good) = if show.options.watches() {
+        play_watched(show, plan, script)?
     } else {
-        (play_all(rt, &mut out, plan, script, options.budget)?, true)
+        play_all(show, plan, script)?
     };
-    out.flush()?;
-    let saved = match &options.journal {
-        Some(name) => save_journal(rt, name.as_str(), script, outcome.answers.as_slice())?,
+    show.flush()?;
+    let saved = match show.options.journal {
+        Some(name) => save_journal(show.rt, name, script, outcome.answers.as_slice())?,
         None => true,
     };
-    let finished = finish(rt, &outcome.station, script.events.len(), options)?;
+    let finished = show.finish(&outcome.station, script.events.len())?;
     Ok(good && saved && finished)
 }
 
 // Reads the events and plays them; false where they can't be read, or not played to the end.
-fn play_events(
-    rt: &HostRuntime,
-    plan: Plan<'_>,
-    events: Source<'_>,
-    options: &Options,
-) -> anyhow::Result<bool> {
-    match read_events(rt.alloc(), events.text) {
-        Ok(script) => play(rt, plan, &script, options),
-        Err(fault) => {
-            let name = events.name;
-            eprintln!(rt; "{name}: {fault}")?;
-            Ok(false)
-        }
+fn play_events(show: &mut Show<'_>, plan: Plan<'_>, source: &Source<'_>) -> anyhow::Result<bool> {
+    let read = read_events(show.rt.alloc(), source.text.as_str());
+    match or_said(&show.rt.stderr(), source.name, read)? {
+        Some(script) => play(show, plan, &script),
+        None => Ok(false),
     }
 }
 
-// Plays or replays a text in the station of a plan that goes by this name.
-fn play_text(
-    rt: &HostRuntime,
-    plan: &str,
-    numbers: &[u16],
-    source: Source<'_>,
-    options: &Options,
-) -> anyhow::Result<bool> {
-    let outcome = Outcome::of(numbers);
-    if !outcome.is_sound() {
-        eprintln!(rt; "{plan}: {outcome}")?;
-    }
-    if refusal(numbers).is_some() {
-        return Ok(false);
-    }
-    let plan = Plan::new(numbers);
-    if options.replay.is_some() {
-        replay_text(rt, plan, source.name, source.text, options)
-    } else {
-        play_events(rt, plan, source, options)
-    }
-}
-
-// A text that was read; where it could not be, that is said.
-fn said(rt: &HostRuntime, name: &str, read: io::Result<String>) -> anyhow::Result<Option<String>> {
-    match read {
-        Ok(read) => Ok(Some(read)),
-        Err(error) => {
-            eprintln!(rt; "{name}: {error}")?;
-            Ok(None)
-        }
-    }
-}
-
-// The file with the events or the journal; none for standard input.
-fn source_file(options: &Options) -> &Option<String> {
-    if options.replay.is_some() {
-        &options.replay
-    } else {
-        &options.events
-    }
-}
-
-fn source_name(options: &Options) -> &str {
-    match source_file(options) {
-        Some(name) => name.as_str(),
-        None => "standard input",
-    }
-}
-
-fn source_of(rt: &HostRuntime, options: &Options) -> anyhow::Result<Option<String>> {
-    let read = match source_file(options) {
-        Some(name) => fs::read_to_string(rt, name.as_str()),
-        None => io::read_to_string(rt.alloc(), rt.stdin()),
-    };
-    said(rt, source_name(options), read)
-}
-
-// The plan's numbers; where its text can't be read, that is said.
-fn numbers_of(rt: &HostRuntime, name: &str) -> anyhow::Result<Option<Vec<u16>>> {
-    let Some(plan) = said(rt, name, fs::read_to_string(rt, name))? else {
-        return Ok(None);
-    };
-    match read_plan(rt.alloc(), plan.as_str()) {
-        Ok(numbers) => Ok(Some(numbers)),
-        Err(fault) => {
-            eprintln!(rt; "{name}: {fault}")?;
-            Ok(None)
-        }
-    }
-}
-
-fn play_files(rt: &HostRuntime, options: &Options) -> anyhow::Result<bool> {
-    let Some(plan) = &options.plan else {
+// Plays or replays the file with the events or the journal, or the standard input, in the station of a plan.
+fn play_files(rt: &HostRuntime, options: Options<'_>) -> anyhow::Result<bool> {
+    if options.plan.is_none() {
         return Err(anyhow!(USAGE));
-    };
-    let Some(numbers) = numbers_of(rt, plan.as_str())? else {
+    }
+    let Some(office) = Source::open(rt, options.plan)? else {
         return Ok(false);
     };
-    let Some(text) = source_of(rt, options)? else {
+    let Some(numbers) = office.numbers(rt)? else {
         return Ok(false);
     };
-    let source = Source {
-        name: source_name(options),
-        text: text.as_str(),
+    let numbers = numbers.as_slice();
+    let Some(source) = Source::open(rt, options.replay.or(options.events))? else {
+        return Ok(false);
     };
-    play_text(rt, plan.as_str(), numbers.as_slice(), source, options)
+    if !is_sound(numbers) {
+        print_verdict(&rt.stderr(), options.plan, numbers)?;
+    }
+    let Ok(plan) = Plan::try_from(numbers) else {
+        return Ok(false);
+    };
+    let mut show = Show::new(rt, options)?;
+    if options.replay.is_some() {
+        replay_text(&mut show, plan, &source)
+    } else {
+        play_events(&mut show, plan, &source)
+    }
 }
 
 fn start(rt: &HostRuntime) -> anyhow::Result<bool> {
-    let options = options_of(rt)?;
-    play_files(rt, &options)
+    let words: Vec<String> = env::args(rt)?.skip(1).collect(rt.alloc())?;
+    play_files(rt, options_of(words.as_slice())?)
 }
 
 fn main(rt: HostRuntime) -> anyhow::Result<ExitCode> {
-    match start(&rt) {
-        Ok(true) => Ok(ExitCode::SUCCESS),
-        Ok(false) => Ok(ExitCode::FAILURE),
-        Err(error) => {
-            eprintln!(rt; "{error}")?;
-            Ok(ExitCode::FAILURE)
-        }
-    }
+    ended(&rt, start(&rt))
 }

@@ -1,6 +1,5 @@
 // What the words after the program's name ask for.
 use anyhow::anyhow;
-use std::env;
 
 // How many events are played if nothing else is said.
 const BUDGET: usize = 1_000_000;
@@ -10,15 +9,15 @@ pub const USAGE: &str =
 
 const BUDGET_IS_A_NUMBER: &str = "player: --budget takes a number";
 
-#[derive(Drop)]
-pub struct Options {
-    pub plan: Option<String>,
-    pub events: Option<String>,
+#[derive(Clone, Copy)]
+pub struct Options<'a> {
+    pub plan: Option<&'a str>,
+    pub events: Option<&'a str>,
     // Where the journal of the run is written.
-    pub journal: Option<String>,
+    pub journal: Option<&'a str>,
     // The journal that is replayed, in place of events.
-    pub replay: Option<String>,
-    pub svg: Option<String>,
+    pub replay: Option<&'a str>,
+    pub svg: Option<&'a str>,
     pub budget: usize,
     // The picture follows each event.
     pub picture: bool,
@@ -26,83 +25,22 @@ pub struct Options {
     pub check: bool,
 }
 
-// What the word before this one leaves open.
-#[derive(Clone, Copy)]
-enum Next {
-    Name,
-    Budget,
-    Svg,
-    Journal,
-    Replay,
-}
-
-// The name of a file: an option in its place means that the name was left out.
-fn no_option(word: String) -> anyhow::Result<String> {
-    if word.as_str().starts_with("-") {
-        return Err(anyhow!(USAGE));
+impl Options<'_> {
+    // Is something looked at after each event?
+    pub fn watches(self) -> bool {
+        self.picture | self.check
     }
-    Ok(word)
 }
 
 fn budget_of(word: &str) -> anyhow::Result<usize> {
     match word.parse::<usize>() {
-        Ok(n) => Ok(n),
+        Ok(budget) => Ok(budget),
         Err(_) => Err(anyhow!(BUDGET_IS_A_NUMBER)),
     }
 }
 
-impl Options {
-    // Is something looked at after each event?
-    pub fn watches(&self) -> bool {
-        self.picture | self.check
-    }
-
-    // Takes a word that is no option: the plan's name, then the events'.
-    fn name(&mut self, word: String) -> anyhow::Result<()> {
-        if self.plan.is_none() {
-            self.plan = Some(word);
-            return Ok(());
-        }
-        if self.events.is_none() {
-            self.events = Some(word);
-            return Ok(());
-        }
-        Err(anyhow!(USAGE))
-    }
-
-    // Takes an option by its name, and says what the next word is for.
-    fn option(&mut self, word: &str) -> anyhow::Result<Next> {
-        match word {
-            "--picture" => self.picture = true,
-            "--check" => self.check = true,
-            "--budget" => return Ok(Next::Budget),
-            "--svg" => return Ok(Next::Svg),
-            "--journal" => return Ok(Next::Journal),
-            "--replay" => return Ok(Next::Replay),
-            _ => return Err(anyhow!(USAGE)),
-        }
-        Ok(Next::Name)
-    }
-
-    fn take(&mut self, next: Next, word: String) -> anyhow::Result<Next> {
-        match next {
-            Next::Budget => self.budget = budget_of(word.as_str())?,
-            Next::Svg => self.svg = Some(no_option(word)?),
-            Next::Journal => self.journal = Some(no_option(word)?),
-            Next::Replay => self.replay = Some(no_option(word)?),
-            Next::Name => {
-                if word.as_str().starts_with("-") {
-                    return self.option(word.as_str());
-                }
-                self.name(word)?;
-            }
-        }
-        Ok(Next::Name)
-    }
-}
-
-// A journal that is replayed has its events, and is written already.
-pub fn options_of(rt: &HostRuntime) -> anyhow::Result<Options> {
+// An option in place of a file's name means that the name was left out.
+fn taken(words: &[String]) -> anyhow::Result<Options<'_>> {
     let mut options = Options {
         plan: None,
         events: None,
@@ -113,15 +51,42 @@ pub fn options_of(rt: &HostRuntime) -> anyhow::Result<Options> {
         picture: false,
         check: false,
     };
-    let mut next = Next::Name;
-    for word in env::args(rt)?.skip(1) {
-        next = options.take(next, word)?;
+    let mut left = words;
+    while let [word, rest @ ..] = left {
+        left = rest;
+        match (word.as_str(), rest) {
+            ("--picture", _) => options.picture = true,
+            ("--check", _) => options.check = true,
+            ("--budget", [number, rest @ ..]) => {
+                options.budget = budget_of(number.as_str())?;
+                left = rest;
+            }
+            ("--svg", [file, rest @ ..]) if !file.starts_with("-") => {
+                options.svg = Some(file.as_str());
+                left = rest;
+            }
+            ("--journal", [file, rest @ ..]) if !file.starts_with("-") => {
+                options.journal = Some(file.as_str());
+                left = rest;
+            }
+            ("--replay", [file, rest @ ..]) if !file.starts_with("-") => {
+                options.replay = Some(file.as_str());
+                left = rest;
+            }
+            (name, _) if name.starts_with("-") => return Err(anyhow!(USAGE)),
+            (name, _) if options.plan.is_none() => options.plan = Some(name),
+            (name, _) if options.events.is_none() => options.events = Some(name),
+            _ => return Err(anyhow!(USAGE)),
+        }
     }
+    Ok(options)
+}
+
+// A journal that is replayed has its events, and is written already.
+pub fn options_of(words: &[String]) -> anyhow::Result<Options<'_>> {
+    let options = taken(words)?;
     if options.replay.is_some() && (options.events.is_some() || options.journal.is_some()) {
         return Err(anyhow!(USAGE));
     }
-    match next {
-        Next::Name => Ok(options),
-        _ => Err(anyhow!(USAGE)),
-    }
+    Ok(options)
 }

@@ -1,77 +1,74 @@
 // What is printed and drawn of a station.
 use crate::options::Options;
 use board::text;
+use console::{Answered, write_file};
 use model::Event;
 use model::station::Station;
 use picture::Picture;
-use script::EventText;
-use std::fs;
-use std::io::Write;
+use std::io;
+use std::io::{BufWriter, Stdout, Write};
 use watch::first_broken;
 
-pub fn print_answer<W: Write>(out: &mut W, event: Event, done: bool) -> anyhow::Result<()> {
-    if done {
-        let said = EventText(event);
-        writeln!(out, "{said}")?;
-    } else {
-        writeln!(out, "can't")?;
-    }
-    Ok(())
+// Where a run is printed, and what is asked for.
+#[derive(Drop)]
+pub struct Show<'a> {
+    pub rt: &'a HostRuntime,
+    pub options: Options<'a>,
+    out: BufWriter<Stdout>,
 }
 
 fn picture_of(station: &Station<'_>) -> Picture {
-    let occupied = station.occupancy();
-    let lies = station.lies();
-    Picture::new(station.plan(), station.interlocking(), &occupied, &lies)
+    Picture::new(
+        station.plan(),
+        station.interlocking(),
+        &station.occupancy(),
+        &station.lies(),
+    )
 }
 
-// Prints what is asked for after an event; false where a promise does not hold.
-pub fn print_after<W: Write>(
-    rt: &HostRuntime,
-    out: &mut W,
-    station: &Station<'_>,
-    options: &Options,
-) -> anyhow::Result<bool> {
-    if options.picture {
-        let table = text(rt.alloc(), &picture_of(station), false)?;
-        write!(out, "{table}")?;
+impl<'a> Show<'a> {
+    pub fn new(rt: &'a HostRuntime, options: Options<'a>) -> anyhow::Result<Show<'a>> {
+        Ok(Show {
+            rt,
+            options,
+            out: BufWriter::new(rt.alloc(), rt.stdout())?,
+        })
     }
-    if options.check {
-        if let Some(broken) = first_broken(station) {
-            writeln!(out, "broken: {broken}")?;
-            return Ok(false);
-        }
-    }
-    Ok(true)
-}
 
-// Writes a file; false where it can't be written, and that is said.
-pub fn write_file(rt: &HostRuntime, name: &str, text: &str) -> anyhow::Result<bool> {
-    match fs::write(rt, name, text) {
-        Ok(()) => Ok(true),
-        Err(error) => {
-            eprintln!(rt; "{name}: {error}")?;
-            Ok(false)
-        }
+    pub fn print_answer(&mut self, event: Event, done: bool) -> io::Result<()> {
+        let said = Answered(event, done);
+        writeln!(self.out, "{said}")
     }
-}
 
-// Says that the budget is used up, if it is, and draws the station, if asked for; false where the drawing can't be written.
-pub fn finish(
-    rt: &HostRuntime,
-    station: &Station<'_>,
-    events: usize,
-    options: &Options,
-) -> anyhow::Result<bool> {
-    let budget = options.budget;
-    if budget < events {
-        eprintln!(rt; "stopped: the budget of {budget} events is used up")?;
-    }
-    match &options.svg {
-        Some(name) => {
-            let drawn = drawing::svg(rt.alloc(), station.plan(), &picture_of(station))?;
-            write_file(rt, name.as_str(), drawn.as_str())
+    // Prints what is asked for after an event; false where a promise does not hold.
+    pub fn print_after(&mut self, station: &Station<'_>) -> anyhow::Result<bool> {
+        if self.options.picture {
+            let table = text(self.rt.alloc(), &picture_of(station), false)?;
+            write!(self.out, "{table}")?;
         }
-        None => Ok(true),
+        if self.options.check {
+            if let Some(broken) = first_broken(station) {
+                writeln!(self.out, "broken: {broken}")?;
+                return Ok(false);
+            }
+        }
+        Ok(true)
+    }
+
+    pub fn flush(&mut self) -> io::Result<()> {
+        self.out.flush()
+    }
+
+    // Says that the budget is used up, if it is, and draws the station, if asked for; false where the drawing can't be written.
+    pub fn finish(&self, station: &Station<'_>, events: usize) -> anyhow::Result<bool> {
+        let budget = self.options.budget;
+        if budget < events {
+            eprintln!(self.rt; "stopped: the budget of {budget} events is used up")?;
+        }
+        let Some(name) = self.options.svg else {
+            return Ok(true);
+        };
+        let drawn = drawing::svg(self.rt.alloc(), station.plan(), &picture_of(station))?;
+        Ok(write_file(self.rt, name, drawn.as_str())?)
     }
 }

@@ -4,11 +4,11 @@ use anyhow::anyhow;
 use bridge::Code;
 use model::Event;
 use model::station::Station;
-use plan::read::refusal;
 use plan::view::Plan;
 use replay::memory_of;
 use safety::run::run;
 use std::alloc::{AllocError, Global};
+use std::collections::BTreeSet;
 use std::fs;
 
 // The cases that are still to come, and what is lent to the library for them.
@@ -19,17 +19,30 @@ struct Comparison<'a> {
     memory: Vec<u16>,
     seen: &'a [u8],
     turned: &'a [u8],
-    // The kinds of cases that there were, a bit for each.
-    kinds: u16,
+    // The kinds of cases that there were.
+    kinds: BTreeSet<Kind>,
 }
 
-const ROWS: u16 = 256;
+// What was asked, and how it was answered.
+#[derive(Clone, Copy, PartialEq, Eq, PartialOrd, Ord)]
+enum Kind {
+    Sound,
+    Unsound,
+    NoPlan,
+    Done,
+    NotDone,
+    Refused,
+    Noted,
+    NotingRefused,
+    Row,
+}
 
-const ALL_KINDS: u16 = 511;
+const ALL_KINDS: usize = 9;
 
 #[derive(Clone, Copy)]
 enum Asked {
     Judge,
+    // By its two numbers, as C hands it over: what is refused for them is no `Request`.
     Request(u16, u16),
     Noting,
     Row,
@@ -48,31 +61,26 @@ enum Difference {
 }
 
 // The kind of a case: what was asked, and the first number of the answer.
-fn kind(asked: Asked, what: u64) -> u16 {
+fn kind_of(asked: Asked, what: u64) -> Kind {
     match (asked, what) {
-        (Asked::Judge, 0) => 1,
-        (Asked::Judge, 1) => 2,
-        (Asked::Judge, _) => 4,
-        (Asked::Request(..), 0) => 8,
-        (Asked::Request(..), 1) => 16,
-        (Asked::Request(..), _) => 32,
-        (Asked::Noting, 1) => 64,
-        (Asked::Noting, _) => 128,
-        (Asked::Row, _) => ROWS,
+        (Asked::Judge, 0) => Kind::Sound,
+        (Asked::Judge, 1) => Kind::Unsound,
+        (Asked::Judge, _) => Kind::NoPlan,
+        (Asked::Request(..), 0) => Kind::NotDone,
+        (Asked::Request(..), 1) => Kind::Done,
+        (Asked::Request(..), _) => Kind::Refused,
+        (Asked::Noting, 1) => Kind::Noted,
+        (Asked::Noting, _) => Kind::NotingRefused,
+        (Asked::Row, _) => Kind::Row,
     }
-}
-
-fn same(due: Code, code: Code) -> bool {
-    due.what == code.what && due.number == code.number && due.place == code.place
 }
 
 fn first_change(due: &[u16], found: &[u16]) -> Option<Difference> {
-    for (place, (due, found)) in due.iter().zip(found).enumerate() {
-        if *due != *found {
-            return Some(Difference::Number(place, *due, *found));
-        }
-    }
-    None
+    due.iter()
+        .zip(found)
+        .enumerate()
+        .find(|(_, (due, found))| due != found)
+        .map(|(place, (due, found))| Difference::Number(place, *due, *found))
 }
 
 // The world of a station in numbers.
@@ -99,14 +107,13 @@ fn row_differs(
     done: &[u8],
     world: &[u16],
 ) -> anyhow::Result<Option<Difference>> {
-    if refusal(plan).is_some() {
+    let Ok(plan) = Plan::try_from(plan) else {
         return Err(anyhow!("a row in a plan that is refused"));
-    }
-    let outcome = run(heap, Plan::new(plan), [true; 32], events, events.len())?;
-    for (place, (due, answer)) in done.iter().zip(outcome.answers.iter()).enumerate() {
-        if (*due == 1) != *answer {
-            return Ok(Some(Difference::Event(place)));
-        }
+    };
+    let outcome = run(heap, plan, [true; 32], events, events.len())?;
+    let mut answers = done.iter().zip(outcome.answers.iter());
+    if let Some(place) = answers.position(|(due, answer)| (*due == 1) != *answer) {
+        return Ok(Some(Difference::Event(place)));
     }
     let numbers = world_numbers(heap, &outcome.station)?;
     if done.len() != outcome.answers.len() || world.len() != numbers.len() {
@@ -121,12 +128,10 @@ impl Comparison<'_> {
         let events = self.reader.events(heap)?;
         let done = self.reader.marks()?;
         let world = self.reader.numbers(heap)?;
-        self.kinds |= ROWS;
+        self.kinds.insert(Kind::Row)?;
         let plan = self.plan.as_slice();
-        match row_differs(heap, plan, events.as_slice(), done, world.as_slice())? {
-            Some(difference) => Ok(Some((Asked::Row, difference))),
-            None => Ok(None),
-        }
+        let difference = row_differs(heap, plan, events.as_slice(), done, world.as_slice())?;
+        Ok(difference.map(|difference| (Asked::Row, difference)))
     }
 
     // What the library answers; it may change the memory.
@@ -150,15 +155,13 @@ impl Comparison<'_> {
         if !matches!(asked, Asked::Judge) {
             self.reader.changes(&mut left)?;
         }
-        self.kinds |= kind(asked, due.what);
+        self.kinds.insert(kind_of(asked, due.what))?;
         let code = self.answer(asked);
-        if !same(due, code) {
+        if due != code {
             return Ok(Some((asked, Difference::Answer(due, code))));
         }
-        match first_change(left.as_slice(), self.memory.as_slice()) {
-            Some(difference) => Ok(Some((asked, difference))),
-            None => Ok(None),
-        }
+        let change = first_change(left.as_slice(), self.memory.as_slice());
+        Ok(change.map(|difference| (asked, difference)))
     }
 
     // One case: a difference, if there is one.
@@ -216,7 +219,11 @@ fn print_difference(rt: &HostRuntime, asked: Asked, difference: Difference) -> a
 }
 
 // Goes through the cases of a file, and gives their kinds with those of before; nothing at the first difference, or where the file can't be read on.
-fn compare(rt: &HostRuntime, name: &str, kinds: u16) -> anyhow::Result<Option<u16>> {
+fn compare(
+    rt: &HostRuntime,
+    name: &str,
+    kinds: BTreeSet<Kind>,
+) -> anyhow::Result<Option<BTreeSet<Kind>>> {
     let file = fs::read(rt, name)?;
     let mut comparison = Comparison {
         reader: Reader::new(file.as_slice()),
@@ -226,6 +233,7 @@ fn compare(rt: &HostRuntime, name: &str, kinds: u16) -> anyhow::Result<Option<u1
         turned: &[],
         kinds,
     };
+    // Counted, since a difference is told with the number of its case; a `while` would need a counter beside it.
     for nth in 0..u64::MAX {
         if comparison.reader.at_end() {
             break;
@@ -248,7 +256,7 @@ fn compare(rt: &HostRuntime, name: &str, kinds: u16) -> anyhow::Result<Option<u1
 }
 
 pub fn show(rt: &HostRuntime) -> anyhow::Result<()> {
-    let mut kinds = 0;
+    let mut kinds = BTreeSet::new(rt.alloc());
     for name in ["cases", "more"] {
         if fs::exists(rt, name)? {
             match compare(rt, name, kinds)? {
@@ -257,7 +265,7 @@ pub fn show(rt: &HostRuntime) -> anyhow::Result<()> {
             }
         }
     }
-    if kinds != ALL_KINDS {
+    if kinds.len() != ALL_KINDS {
         return Err(anyhow!("some kind of case is missing"));
     }
     println!(rt;

@@ -6,7 +6,6 @@ use journal::Journal;
 use ledger::Untrue;
 use model::station::Station;
 use picture::Picture;
-use plan::read::refusal;
 use plan::view::Plan;
 use replay::{Wrong, replay};
 use safety::run::run;
@@ -18,9 +17,12 @@ use std::fs;
 const LEFT: &str = "1 1 1 1 1 1 1 1 1 1 1 1 1 1 1 1 1 1 1 1 1 1 1 1 1 1 1 1 1 1 1 1";
 
 fn picture_of(heap: Global, station: &Station<'_>) -> Result<String, AllocError> {
-    let occupied = station.occupancy();
-    let lies = station.lies();
-    let picture = Picture::new(station.plan(), station.interlocking(), &occupied, &lies);
+    let picture = Picture::new(
+        station.plan(),
+        station.interlocking(),
+        &station.occupancy(),
+        &station.lies(),
+    );
     text(heap, &picture, false)
 }
 
@@ -87,11 +89,9 @@ pub fn show(rt: &HostRuntime) -> anyhow::Result<()> {
     let Some(numbers) = numbers_of(rt, "loop")? else {
         return Ok(());
     };
-    let numbers = numbers.as_slice();
-    if refusal(numbers).is_some() {
+    let Ok(plan) = Plan::try_from(numbers.as_slice()) else {
         return Err(anyhow!("the loop is refused"));
-    }
-    let plan = Plan::new(numbers);
+    };
     play(rt, plan, events.as_str())?;
     show_table(rt, plan, firsts.as_str(), true)?;
     show_table(rt, plan, entries.as_str(), false)

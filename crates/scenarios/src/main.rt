@@ -6,13 +6,12 @@ mod chance;
 mod journals;
 mod played;
 mod reader;
-mod texts;
 mod verdicts;
 
 fn run(rt: &HostRuntime) -> anyhow::Result<()> {
     verdicts::show(rt)?;
     played::show(rt)?;
-    texts::show(rt)?;
+    trial::texts::show(rt)?;
     journals::show(rt)?;
     chance::show(rt)?;
     beside::show(rt)

@@ -1,38 +1,128 @@
 -- What was looked at in parts is what is promised of the world.
-use Rattle.std.proofs.Common.{◌≡◌, ℕ, Some, None, Option, subst, MatchOption}
-use Rattle.plan.specs.Plan.{Plan, Positions}
-use Rattle.interlocking.specs.State.{State, Occupancy}
+use Rattle.std.proofs.Common.{◌≡◌, ℕ, ◌+◌, ◌<◌, ◌≤◌, true, List, ◌∷◌, length, Some, None, Option, subst, sym, ap, ◌∙◌, MatchOption, arith}
+use Rattle.std.specs.Option.{option_or}
+use Rattle.plan.specs.Plan.{Plan, Positions, Once}
+use Rattle.interlocking.specs.State.{State, Occupancy, is_open}
+use Rattle.occupancy.specs.Notes.{notes}
+use Rattle.model.specs.Stations.{station_plan, station_world}
 use Rattle.model.specs.World.{Train, World, occupied}
-use Rattle.watch.specs.Broken.{Fine, Held, Placed, Violated, ViolatedIn}
+use Rattle.model.specs.declared.station.Station.{Station}
+use Rattle.safety.specs.Promise.{Hangs}
+use Rattle.watch.specs.Broken.{ApartLists, FallsSoonAt, Fine, Held, LetsGoAt, NoOrphanAt, Placed, ShownRight, Violated, ViolatedIn, WantedAt, WayAt}
+use Rattle.watch.specs.Scene.{BrokenIn, Looked, Shows, body_in, lies_in, occupied_in, plan_in, state_in, trains_in, up_in}
 use Rattle.watch.specs.declared.Broken.{Broken}
+use Rattle.watch.specs.declared.scene.Scene.{Scene}
+use Rattle.watch.proofs.Lists.{both_ways}
+
+-- of some looks the first that found something, or none of them did
+first : (V : Broken → Type 0) (A B : Type 0) (o q r : Option Broken) → r ≡ option_or o q → MatchOption o A V → MatchOption q B V → MatchOption r (A × B) V
+first V A B None None r e a b = rw e (a, b)
+first V A B None (Some y) r e a b = rw e b
+first V A B (Some x) q r e a b = rw e a
+
+such : (V : Broken → Type 0) (A B : Type 0) (o : Option Broken) → (A → B) → MatchOption o A V → MatchOption o B V
+such V A B None f a = f a
+such V A B (Some x) f a = a
+
+module _ (s : Scene) where
+  abbrev ApartIn : Type 0
+  ApartIn = (i : ℕ) → i < 16 → (j : ℕ) → i + 1 ≤ j → j < 16 → ApartLists (body_in s i) (body_in s j)
+
+  abbrev StandsIn : Type 0
+  StandsIn = (i : ℕ) → i < 16 → Hangs (plan_in s) (lies_in s) (up_in s i) (body_in s i)
+
+  abbrev StillIn : Type 0
+  StillIn = (q : ℕ) → q < (plan_in s).points → occupied 16 (trains_in s) ((plan_in s).place q) ≡ true → (state_in s).wanted q ≡ lies_in s q
+
+  abbrev ShownIn : Type 0
+  ShownIn = (r : ℕ) → r < length (plan_in s).routes → is_open ((state_in s).stage r) ≡ true → ShownRight (plan_in s) (state_in s) (lies_in s) (occupied_in s) r
+
+  abbrev WayIn : Type 0
+  WayIn = (i : ℕ) → i < 16 → (x : ℕ) → (xs : List ℕ) → body_in s i ≡ x ∷ xs → WayAt (plan_in s) (lies_in s) (occupied_in s) (up_in s i) x
+
+  pub placed : (a b c d e ab abc abcd r : Option Broken) → ab ≡ option_or a b → abc ≡ option_or ab c → abcd ≡ option_or abc d → r ≡ option_or abcd e →
+      Looked s a ApartIn → Looked s b StandsIn → Looked s c StillIn → Looked s d ShownIn → Looked s e WayIn →
+      Looked s r (Placed (plan_in s) (state_in s) (lies_in s) (occupied_in s) (trains_in s))
+  placed a b c d e ab abc abcd r f g h k ta tb tc td te =
+      let V = BrokenIn s in
+      let all = first V _ WayIn abcd e r k (first V _ ShownIn abc d abcd h (first V _ StillIn ab c abc g (first V ApartIn StandsIn a b ab f ta tb) tc) td) te in
+      such V ((((ApartIn × StandsIn) × StillIn) × ShownIn) × WayIn) _ r
+      (λ t. record {
+        apart = both_ways 16 (body_in s) (λ i j l m. t.0.0.0.0 i (omega arith) j (omega arith) m);
+        standing = t.0.0.0.1;
+        still = t.0.0.1;
+        shown = t.0.1;
+        way = t.1;
+      })
+      all
+
+  abbrev OrphanIn : Type 0
+  OrphanIn = (x : ℕ) → x < 64 → NoOrphanAt (state_in s) x
+
+  abbrev OnceIn : Type 0
+  OnceIn = (i : ℕ) → i < 16 → Once (body_in s i)
+
+  abbrev FallsIn : Type 0
+  FallsIn = (r : ℕ) → r < 64 → FallsSoonAt (plan_in s) (state_in s) r
+
+  abbrev EnteredIn : Type 0
+  EnteredIn = (r : ℕ) → r < length (plan_in s).routes → (notes (plan_in s) (state_in s) (occupied_in s)).stage r ≡ (state_in s).stage r
+
+  abbrev PassedIn : Type 0
+  PassedIn = (x : ℕ) → x < 64 → (notes (plan_in s) (state_in s) (occupied_in s)).passed x ≡ (state_in s).passed x
+
+  abbrev WantedIn : Type 0
+  WantedIn = (r : ℕ) → r < 64 → WantedAt (plan_in s) (state_in s) r
+
+  abbrev LetsGoIn : Type 0
+  LetsGoIn = (r : ℕ) → r < 64 → LetsGoAt (plan_in s) (state_in s) (lies_in s) (occupied_in s) r
+
+  pub held : (a b c d e f g r1 r2 r3 r4 r5 r : Option Broken) → r1 ≡ option_or a b → r2 ≡ option_or r1 c → r3 ≡ option_or r2 d → r4 ≡ option_or r3 e → r5 ≡ option_or r4 f → r ≡ option_or r5 g →
+      Looked s a OrphanIn → Looked s b OnceIn → Looked s c FallsIn → Looked s d EnteredIn → Looked s e PassedIn → Looked s f WantedIn → Looked s g LetsGoIn →
+      Looked s r (Held (plan_in s) (state_in s) (lies_in s) (occupied_in s) (trains_in s))
+  held a b c d e f g r1 r2 r3 r4 r5 r e1 e2 e3 e4 e5 e6 ta tb tc td te tf tg =
+      let V = BrokenIn s in
+      let all = first V _ LetsGoIn r5 g r e6 (first V _ WantedIn r4 f r5 e5 (first V _ PassedIn r3 e r4 e4 (first V _ EnteredIn r2 d r3 e3 (first V _ FallsIn r1 c r2 e2 (first V OrphanIn OnceIn a b r1 e1 ta tb) tc) td) te) tf) tg in
+      such V ((((((OrphanIn × OnceIn) × FallsIn) × EnteredIn) × PassedIn) × WantedIn) × LetsGoIn) _ r
+      (λ t. record {
+        orphan = t.0.0.0.0.0.0;
+        once = t.0.0.0.0.0.1;
+        falls = t.0.0.0.0.1;
+        entered = t.0.0.0.1;
+        passed = t.0.0.1;
+        wanted = t.0.1;
+        lets_go = t.1;
+      })
+      all
 
 abbrev world : State → Positions → (ℕ → Train) → World
 world h t ts = record { interlocking = h; lies = t; trains = ts }
 
-abbrev Told : Plan → World → Option Broken → Type 0
-Told p w o = MatchOption o (Fine p w) (λ b. Violated p w b)
-
-here : (p : Plan) (h : State) (t : Positions) (ts : ℕ → Train) (o : Option Broken) → Placed p h t (occupied 16 ts) ts →
-    MatchOption o (Held p h t (occupied 16 ts) ts) (λ b. ViolatedIn p h t (occupied 16 ts) ts b) → Told p (world h t ts) o
-here p h t ts None a b = record {
-  apart = a.apart;
-  standing = a.standing;
-  still = a.still;
-  shown_when = a.shown;
-  way_before = λ i x xs l. a.way i l x xs;
-  each_once = b.once;
-  held = b;
+fine : (p : Plan) (h : State) (t : Positions) (ts : ℕ → Train) → Placed p h t (occupied 16 ts) ts × Held p h t (occupied 16 ts) ts → Fine p (world h t ts)
+fine p h t ts a = record {
+  apart = a.0.apart;
+  standing = a.0.standing;
+  still = a.0.still;
+  shown_when = a.0.shown;
+  way_before = λ i x xs l. a.0.way i l x xs;
+  each_once = a.1.once;
+  held = a.1;
 }
-here p h t ts (Some x) a b = b
 
-seen : (p : Plan) (h : State) (t : Positions) (s : Occupancy) (ts : ℕ → Train) (o : Option Broken) → s ≡ occupied 16 ts → Placed p h t s ts →
-    MatchOption o (Held p h t s ts) (λ b. ViolatedIn p h t s ts b) → Told p (world h t ts) o
-seen p h t s ts o e a b =
-    here p h t ts o (subst (λ (z : Occupancy). Placed p h t z ts) e a)
-    (subst (λ (z : Occupancy). MatchOption o (Held p h t z ts) (λ b. ViolatedIn p h t z ts b)) e b)
+told_of : (p : Plan) (h : State) (t : Positions) (s : Occupancy) (ts : ℕ → Train) (r : Option Broken) (w : World) → s ≡ occupied 16 ts → h ≡ w.interlocking → t ≡ w.lies → ts ≡ w.trains →
+    MatchOption r (Placed p h t s ts × Held p h t s ts) (ViolatedIn p h t s ts) → MatchOption r (Fine p w) (Violated p w)
+told_of p h t s ts r w e f g k m =
+    let at : MatchOption r (Placed p h t (occupied 16 ts) ts × Held p h t (occupied 16 ts) ts) (ViolatedIn p h t (occupied 16 ts) ts) =
+    subst (λ (z : Occupancy). MatchOption r (Placed p h t z ts × Held p h t z ts) (ViolatedIn p h t z ts)) e m in
+    let told : MatchOption r (Fine p (world h t ts)) (Violated p (world h t ts)) = such (Violated p (world h t ts)) _ _ r (fine p h t ts) at in
+    subst (λ (z : ℕ → Train). MatchOption r (Fine p (world w.interlocking w.lies z)) (Violated p (world w.interlocking w.lies z))) k
+    (subst (λ (z : Positions). MatchOption r (Fine p (world w.interlocking z ts)) (Violated p (world w.interlocking z ts))) g
+    (subst (λ (z : State). MatchOption r (Fine p (world z t ts)) (Violated p (world z t ts))) f told))
 
-pub told : (p p' : Plan) (h h' : State) (t t' : Positions) (s : Occupancy) (ts : ℕ → Train) (o : Option Broken) → p ≡ p' → h ≡ h' → t ≡ t' → s ≡ occupied 16 ts → Placed p h t s ts →
-    MatchOption o (Held p h t s ts) (λ b. ViolatedIn p h t s ts b) → Told p' (world h' t' ts) o
-told p p' h h' t t' s ts o e f g k a b =
-    subst (λ (z : Plan). Told z (world h' t' ts) o) e
-    (subst (λ (z : State). Told p (world z t' ts) o) f (subst (λ (z : Positions). Told p (world h z ts) o) g (seen p h t s ts o k a b)))
+-- what a scene says of the station that it shows
+pub told : (s : Scene) (t : Station) (a b r : Option Broken) → Shows s t → r ≡ option_or a b →
+    Looked s a (Placed (plan_in s) (state_in s) (lies_in s) (occupied_in s) (trains_in s)) → Looked s b (Held (plan_in s) (state_in s) (lies_in s) (occupied_in s) (trains_in s)) →
+    MatchOption r (Fine (station_plan t) (station_world t)) (Violated (station_plan t) (station_world t))
+told s t a b r h e x y =
+    subst (λ (p : Plan). MatchOption r (Fine p (station_world t)) (Violated p (station_world t))) h.plan
+    (told_of (plan_in s) (state_in s) (lies_in s) (occupied_in s) (trains_in s) r (station_world t) (h.occupied ∙ ap (occupied 16) (sym h.trains)) h.state h.lies h.trains (first (BrokenIn s) _ _ a b r e x y))

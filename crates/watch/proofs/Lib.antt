@@ -1,3 +1,4 @@
 mod Lists
+mod Looks
 mod Marks
 mod Joined

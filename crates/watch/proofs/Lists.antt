@@ -1,7 +1,9 @@
--- Loops over lists of sections, and over trains.
-use Rattle.std.proofs.Common.{◌≡◌, ℕ, zero, suc, ◌+◌, ◌-◌, ◌<◌, ◌≤◌, Bool, true, false, eqb, ltb, List, [], ◌∷◌, length, get_or, take, drop, sym, refl, ap, ◌∙◌, subst, add-one, arith}
+-- Lists of sections, and trains.
+use Rattle.std.proofs.Common.{Option, Some, None, MatchOption, ◌≡◌, ℕ, zero, suc, ◌+◌, ◌-◌, ◌<◌, ◌≤◌, Bool, true, false, eqb, ltb, List, [], ◌∷◌, length, get_or, take, drop, sym, refl, ap, ◌∙◌, subst, arith}
 use Rattle.std.proofs.lemmas.List.{take_rest}
-use Rattle.plan.specs.Plan.{Plan, Positions, Joined, among, sameb}
+use Rattle.std.specs.Prelude.{slice_get}
+use Rattle.plan.specs.Plan.{Plan, Positions, Joined, Once, none, more, among, met, pick, repeated, sameb}
+use Rattle.plan.proofs.Walks.{all_at_places}
 use Rattle.plan.specs.View.{no_need}
 use Rattle.plan.specs.declared.Need.{Need}
 use Rattle.model.specs.World.{Train, occupied}
@@ -27,17 +29,21 @@ each_among P (y ∷ ys) h x e =
     go true q f = let s : x ≡ y = grind arith in rw s (h 0 (omega arith))
     go false q f = f (grind arith)
 
--- all places were looked at
-pub each_looked : (P : ℕ → Type 0) (xs : List ℕ) (i : ℕ) → length xs ≤ i → ((k : ℕ) → k < i → P (get_or xs k 0)) → (x : ℕ) → among x xs ≡ true → P x
-each_looked P xs i l h = each_among P xs (λ k m. h k (omega arith))
+-- the first section that stands again: there is none, or it does
+doubled_on : (x z : ℕ) (ys : List ℕ) → Doubled z ys → Doubled z (x ∷ ys)
+doubled_on x z ys h =
+    let n : suc h.0 + 1 ≡ suc (h.0 + 1) = omega arith in
+    (suc h.0, omega (arith, h.1), h.2, subst (λ (k : ℕ). among z (drop k (x ∷ ys)) ≡ true) (sym n) h.3)
 
--- the rest of a list has it again
-pub doubled_at : (xs : List ℕ) (i : ℕ) (b : Bool) → i < length xs → b ≡ among (get_or xs i 0) (take (length xs - (i + 1)) (drop (i + 1) xs)) → b ≡ true → Doubled (get_or xs i 0) xs
-doubled_at xs i b l e f =
-    (i, l, refl, let r = take_rest xs (i + 1) in sym (ap (among (get_or xs i 0)) r) ∙ sym e ∙ f)
-
-pub not_both : (b : Bool) → b ≡ false → b ≡ true → ⊥
-not_both b f t = grind arith
+pub doubled_is : (xs : List ℕ) → MatchOption (repeated xs) (Once xs) (λ x. Doubled x xs)
+unfolding repeated
+doubled_is [] = none
+doubled_is (x ∷ xs) = go (among x xs) refl (repeated xs) (doubled_is xs)
+  where
+    go : (b : Bool) → among x xs ≡ b → (o : Option ℕ) → MatchOption o (Once xs) (λ y. Doubled y xs) → MatchOption (pick b (Some x) o) (Once (x ∷ xs)) (λ y. Doubled y (x ∷ xs))
+    go true e o h = (0, omega arith, refl, e)
+    go false e None h = more x xs e h
+    go false e (Some y) h = doubled_on x y xs h
 
 -- what holds of each later one holds of each other one, if it holds both ways
 pub both_ways : (n : ℕ) (f : ℕ → List ℕ) → ((i j : ℕ) → i < j → j < n → ApartLists (f i) (f j)) →
@@ -48,26 +54,13 @@ both_ways n f h i j x a b d e g = go (ltb i j) refl
     go true q = h i j (grind arith) b x e g
     go false q = let l : j < i = grind arith in h j i l a x g e
 
-pub apart_by : (a b x y : List ℕ) → a ≡ x → b ≡ y → ApartLists a b → ApartLists x y
-apart_by a b x y e f h = λ z g k. h z (ap (among z) e ∙ g) (ap (among z) f ∙ k)
-
-pub vacant_more : (ts : ℕ → Train) (i x : ℕ) → among x (ts i).body ≡ false → occupied i ts x ≡ false → occupied (i + 1) ts x ≡ false
+-- no train stands in a section
+pub vacant_all : (ts : ℕ → Train) (x n : ℕ) → ((k : ℕ) → k < n → among x (ts k).body ≡ false) → occupied n ts x ≡ false
 unfolding occupied
-vacant_more ts i x e f = rw add-one (grind arith)
+vacant_all ts x zero h = refl
+vacant_all ts x (suc n) h = let ih = vacant_all ts x n (λ k l. h k (omega arith)) in let e = h n (omega arith) in grind arith
 
--- a way that hangs together
-pub hangs_all : (p : Plan) (t : Positions) (up : Bool) (xs : List ℕ) →
-    ((k : ℕ) → suc k < length xs → Joined p t up (get_or xs (suc k) 0) (get_or xs k 0)) → Hangs p t up xs
-hangs_all p t up [] h = nowhere
-hangs_all p t up (x ∷ []) h = in_one x
-hangs_all p t up (x ∷ (y ∷ ys)) h = in_more x y ys (h 0 (omega arith)) (hangs_all p t up (y ∷ ys) (λ k l. h (suc k) (omega arith)))
-
-pub hangs_looked : (p : Plan) (t : Positions) (up : Bool) (xs : List ℕ) (n : ℕ) → length xs ≤ n →
-    ((k : ℕ) → k < n → 0 < k → Joined p t up (get_or xs k 0) (get_or xs (k - 1) 0)) → Hangs p t up xs
-hangs_looked p t up xs n l h =
-    hangs_all p t up xs (λ k m. let e : suc k - 1 ≡ k = omega arith in
-    subst (λ (j : ℕ). Joined p t up (get_or xs (suc k) 0) (get_or xs j 0)) e (h (suc k) (omega arith) (omega arith)))
-
+-- joined, by a test
 pub joined_is : (p : Plan) (t : Positions) (up : Bool) (a b : ℕ) (r : Bool) → r ≡ joined p t up a b → r ≡ true → Joined p t up a b
 unfolding Joined
 joined_is p t up a b r e f = grind arith
@@ -76,26 +69,51 @@ pub joined_not : (p : Plan) (t : Positions) (up : Bool) (a b : ℕ) (r : Bool) �
 unfolding Joined
 joined_not p t up a b r e f j = let g = j.0 in let k = j.1 in grind arith
 
-pub hangs_by : (p : Plan) (t : Positions) (up u : Bool) (xs ys : List ℕ) → up ≡ u → xs ≡ ys → Hangs p t up xs → Hangs p t u ys
-hangs_by p t up u xs ys e f h = subst (λ (z : List ℕ). Hangs p t u z) f (subst (λ (z : Bool). Hangs p t z xs) e h)
+-- a way of two sections or more, its first two and the rest
+pub parted_here : (p : Plan) (t : Positions) (up : Bool) (xs : List ℕ) → 2 ≤ length xs → (Joined p t up (get_or xs 1 0) (get_or xs 0 0) → ⊥) → Parted p t up xs (get_or xs 1 0) (get_or xs 0 0)
+parted_here p t up xs l n = (1, omega arith, omega arith, refl, refl, n)
 
-pub parted_by : (p : Plan) (t : Positions) (up u : Bool) (xs ys : List ℕ) (a b : ℕ) → up ≡ u → xs ≡ ys → Parted p t up xs a b → Parted p t u ys a b
-parted_by p t up u xs ys a b e f h = subst (λ (z : List ℕ). Parted p t u z a b) f (subst (λ (z : Bool). Parted p t z xs a b) e h)
+parted_on : (p : Plan) (t : Positions) (up : Bool) (x : ℕ) (xs : List ℕ) (a b : ℕ) → Parted p t up xs a b → Parted p t up (x ∷ xs) a b
+parted_on p t up x xs a b h = (suc h.0, omega arith, omega (arith, h.2), h.3, before h.0 h.1 h.4, h.5)
+  where
+    before : (k : ℕ) → 0 < k → get_or xs (k - 1) 0 ≡ b → get_or (x ∷ xs) (suc k - 1) 0 ≡ b
+    before zero l e = absurd (omega arith)
+    before (suc k) l e =
+        let z : suc k - 1 ≡ k = omega arith in
+        let w : suc (suc k) - 1 ≡ suc k = omega arith in
+        ap (λ (j : ℕ). get_or (x ∷ xs) j 0) w ∙ ap (λ (j : ℕ). get_or xs j 0) (sym z) ∙ e
 
--- the way before a train, whose sections are ys
-pub way_none : (p : Plan) (t : Positions) (s : Occupancy) (up : Bool) (xs ys : List ℕ) → xs ≡ ys → length xs ≡ 0 → (x : ℕ) (zs : List ℕ) → ys ≡ x ∷ zs → WayAt p t s up x
-way_none p t s up xs ys e n x zs f = let l : length xs ≡ length (x ∷ zs) = ap length (e ∙ f) in absurd (omega arith)
+pub parted_rest : (p : Plan) (t : Positions) (up : Bool) (xs : List ℕ) → 2 ≤ length xs → (a b : ℕ) → Parted p t up (take (length xs - 1) (drop 1 xs)) a b → Parted p t up xs a b
+parted_rest p t up [] l a b h = absurd (omega arith)
+parted_rest p t up (x ∷ xs) l a b h = parted_on p t up x xs a b (subst (λ (z : List ℕ). Parted p t up z a b) (take_rest (x ∷ xs) 1) h)
 
-pub way_some : (p : Plan) (t : Positions) (s : Occupancy) (up u : Bool) (xs ys : List ℕ) → up ≡ u → xs ≡ ys → WayAt p t s up (get_or xs 0 0) → (x : ℕ) (zs : List ℕ) → ys ≡ x ∷ zs → WayAt p t s u x
-way_some p t s up u xs ys e f h x zs g =
-    let k : get_or xs 0 0 ≡ x = ap (λ (l : List ℕ). get_or l 0 0) (f ∙ g) in
-    subst (λ (z : ℕ). WayAt p t s u z) k (subst (λ (z : Bool). WayAt p t s z (get_or xs 0 0)) e h)
+pub hangs_rest : (p : Plan) (t : Positions) (up : Bool) (xs : List ℕ) → 2 ≤ length xs → Joined p t up (get_or xs 1 0) (get_or xs 0 0) → Hangs p t up (take (length xs - 1) (drop 1 xs)) → Hangs p t up xs
+hangs_rest p t up [] l j h = absurd (omega arith)
+hangs_rest p t up (x ∷ []) l j h = absurd (omega arith)
+hangs_rest p t up (x ∷ (y ∷ ys)) l j h = in_more x y ys j (subst (λ (z : List ℕ). Hangs p t up z) (take_rest (x ∷ (y ∷ ys)) 1) h)
 
-pub way_blocks : (p : Plan) (t : Positions) (s : Occupancy) (up u : Bool) (xs ys : List ℕ) (y : ℕ) → up ≡ u → xs ≡ ys → (length xs ≡ 0 → ⊥) → WayBlocked p t s up (get_or xs 0 0) y →
-    (x : ℕ) × (zs : List ℕ) × (ys ≡ x ∷ zs) × WayBlocked p t s u x y
-way_blocks p t s up u [] ys y e f n h = absurd (n refl)
-way_blocks p t s up u (x ∷ xs) ys y e f n h = (x, xs, sym f, subst (λ (z : Bool). WayBlocked p t s z x y) e h)
+pub hangs_short : (p : Plan) (t : Positions) (up : Bool) (xs : List ℕ) → length xs < 2 → Hangs p t up xs
+hangs_short p t up [] l = nowhere
+hangs_short p t up (x ∷ []) l = in_one x
+hangs_short p t up (x ∷ (y ∷ ys)) l = absurd (omega arith)
 
--- a need that is not met
-pub lies_wrong : (t : Positions) (ns : List Need) (i m : ℕ) (n : Need) → i < m → m ≡ length ns → n ≡ get_or ns i no_need → sameb (t n.point) n.left ≡ false → LiesWrong t ns n.point
-lies_wrong t ns i m n l e f g = (i, omega arith, sym (ap (λ (z : Need). z.point) f), sym (ap (λ (z : Need). sameb (t n.point) z.left) f) ∙ g)
+-- the way before the sections ys of a train, by its front
+pub way_told : (p : Plan) (t : Positions) (s : Occupancy) (up : Bool) (ys : List ℕ) (x : ℕ) (o : Option ℕ) → slice_get ys 0 ≡ Some x → MatchOption o (WayAt p t s up x) (λ z. WayBlocked p t s up x z) →
+    MatchOption o ((y : ℕ) → (zs : List ℕ) → ys ≡ y ∷ zs → WayAt p t s up y) (λ z. (y : ℕ) × (zs : List ℕ) × (ys ≡ y ∷ zs) × WayBlocked p t s up y z)
+way_told p t s up [] x o e h = absurd (cc)
+way_told p t s up (y ∷ ys) x None e h = λ z zs f. let q : x ≡ z = cc in subst (λ (k : ℕ). WayAt p t s up k) q h
+way_told p t s up (y ∷ ys) x (Some z) e h = let q : x ≡ y = cc in (y, ys, refl, subst (λ (k : ℕ). WayBlocked p t s up k z) q h)
+
+-- needs that are all met, and one that is not
+pub met_all : (t : Positions) (ns : List Need) (Y : Need → Type 0) (o : Option Need) (r : Option ℕ) →
+    MatchOption o ((i : ℕ) → i < length ns → sameb (t (get_or ns i no_need).point) (get_or ns i no_need).left ≡ true) Y → o ≡ None → r ≡ None → MatchOption r (met t ns ≡ true) (LiesWrong t ns)
+unfolding met
+met_all t ns Y None r h e f = rw f (all_at_places (met t) (λ n. sameb (t n.point) n.left) refl (λ n ns. refl) ns h)
+met_all t ns Y (Some n) r h e f = absurd (cc)
+
+pub lies_wrong : (t : Positions) (ns : List Need) (X : Type 0) (o : Option Need) (n : Need) →
+    MatchOption o X (λ m. (i : ℕ) × (i < length ns) × (get_or ns i no_need ≡ m) × (sameb (t m.point) m.left ≡ false)) → o ≡ Some n → LiesWrong t ns n.point
+lies_wrong t ns X None n h e = absurd (cc)
+lies_wrong t ns X (Some m) n h e =
+    let q : m ≡ n = cc in
+    subst (λ (k : Need). LiesWrong t ns k.point) q (h.0, h.1, ap (λ (z : Need). z.point) h.2, ap (λ (z : Need). sameb (t m.point) z.left) h.2 ∙ h.3)

@@ -74,14 +74,6 @@ ViolatedIn p h t s ts (Unpassed x) = (notes p h s).passed x ≡ h.passed x → �
 ViolatedIn p h t s ts (Unwanted r) = (h.stage r ≡ Set) × (met h.wanted (route p r).needs ≡ false)
 ViolatedIn p h t s ts (Kept r) = (h.stage r ≡ Used) × ((x : ℕ) → among x (route p r).path ≡ true → s x ≡ false) × (does p h s t (Back r) ≡ false)
 
--- whatever there is but the trains
-abbrev pub Anyhow : (ℕ → Train) → Broken → Type 0
-Anyhow ts b = (p : Plan) (h : State) (t : Positions) (s : Occupancy) → ViolatedIn p h t s ts b
-
--- whatever the trains
-abbrev pub Names : Plan → State → Positions → Occupancy → Broken → Type 0
-Names p h t s b = (ts : ℕ → Train) → ViolatedIn p h t s ts b
-
 abbrev pub Violated : Plan → World → Broken → Type 0
 Violated p w b = ViolatedIn p w.interlocking w.lies (occupied 16 w.trains) w.trains b
 

@@ -1,24 +1,22 @@
 // The promises looked at in a station's world, whatever is proved of it: the first that does not hold, and where.
 #![tactic(auto)]
 
-ghost use Rattle.interlocking.specs.Says.{state_of};
 ghost use Rattle.model.specs.Stations.{station_plan, station_world};
-ghost use Rattle.plan.specs.Plan.{marks};
-ghost use Rattle.plan.specs.View.{plan_of};
 ghost use Rattle.std.specs.Option.{MatchOption};
-ghost use Rattle.watch.specs.Broken.{Fine, Held, Placed, Violated, ViolatedIn};
+ghost use Rattle.watch.specs.Broken.{Fine, Held, Placed, Violated};
+ghost use Rattle.watch.specs.Scene.{Looked, lies_in, occupied_in, plan_in, state_in, trains_in};
 
-use interlocking::Interlocking;
+use crate::scene::Scene;
 use model::station::Station;
-use plan::view::Plan;
+use plan::side;
 use std::fmt;
 
 mod fleet;
 mod routes;
-mod seen;
+mod scene;
 
 // What does not hold. Trains and routes, sections and points go by their numbers.
-#[derive(Clone, Copy)]
+#[derive(Clone, Copy, Debug, PartialEq, Eq)]
 pub enum Broken {
     // A section with two trains.
     Together(u16, usize, usize),
@@ -50,78 +48,39 @@ pub enum Broken {
     Kept(usize),
 }
 
-// Where trains stand, and what may be entered.
-fn misplaced(
-    station: &Station<'_>,
-    plan: Plan<'_>,
-    interlocking: &Interlocking,
-    lies: &[bool],
-    occupied: &[bool],
-) -> Option<Broken>
-    ensures { MatchOption result (Placed (plan_of plan.entry) (state_of interlocking.now) (marks lies.now) (marks occupied.now) (station_world station.now).trains) (λ b. ViolatedIn (plan_of plan.entry) (state_of interlocking.now) (marks lies.now) (marks occupied.now) (station_world station.now).trains b) }
-{
-    if let Some(b) = fleet::apart(station) {
-        return Some(b);
+impl Scene<'_> {
+    // Where trains stand, and what may be entered.
+    // `or` looks at all of them, as is done anyway where nothing is broken; with `or_else` the proof did not close.
+    fn misplaced(&self) -> Option<Broken>
+        ensures { Looked self.now result (Placed (plan_in self.now) (state_in self.now) (lies_in self.now) (occupied_in self.now) (trains_in self.now)) }
+    {
+        self.apart()
+            .or(self.standing())
+            .or(self.still())
+            .or(self.shown())
+            .or(self.way_before())
     }
-    if let Some(b) = fleet::standing(station, plan, lies) {
-        return Some(b);
-    }
-    if let Some(b) = fleet::still(station, plan, interlocking, lies) {
-        return Some(b);
-    }
-    if let Some(b) = routes::shown(plan, interlocking, lies, occupied) {
-        return Some(b);
-    }
-    fleet::way_before(station, plan, lies, occupied)
-}
 
-// What is locked, passed, wanted and left.
-fn misheld(
-    station: &Station<'_>,
-    plan: Plan<'_>,
-    interlocking: &Interlocking,
-    lies: &[bool],
-    occupied: &[bool],
-) -> Option<Broken>
-    ensures { MatchOption result (Held (plan_of plan.entry) (state_of interlocking.now) (marks lies.now) (marks occupied.now) (station_world station.now).trains) (λ b. ViolatedIn (plan_of plan.entry) (state_of interlocking.now) (marks lies.now) (marks occupied.now) (station_world station.now).trains b) }
-{
-    if let Some(b) = routes::no_orphan(plan, interlocking, lies, occupied) {
-        return Some(b);
+    // What is locked, passed, wanted and left.
+    fn misheld(&self) -> Option<Broken>
+        ensures { Looked self.now result (Held (plan_in self.now) (state_in self.now) (lies_in self.now) (occupied_in self.now) (trains_in self.now)) }
+    {
+        self.no_orphan()
+            .or(self.each_once())
+            .or(self.falls_soon())
+            .or(self.entered())
+            .or(self.passed())
+            .or(self.wanted())
+            .or(self.lets_go())
     }
-    if let Some(b) = fleet::each_once(station) {
-        return Some(b);
-    }
-    if let Some(b) = routes::falls_soon(plan, interlocking, lies, occupied) {
-        return Some(b);
-    }
-    if let Some(b) = routes::entered(plan, interlocking, lies, occupied) {
-        return Some(b);
-    }
-    if let Some(b) = routes::passed(plan, interlocking, lies, occupied) {
-        return Some(b);
-    }
-    if let Some(b) = routes::wanted(plan, interlocking, lies, occupied) {
-        return Some(b);
-    }
-    routes::lets_go(plan, interlocking, lies, occupied)
 }
 
 // The first promise that does not hold.
 pub fn first_broken(station: &Station<'_>) -> Option<Broken>
     ensures { MatchOption result (Fine (station_plan station.now) (station_world station.now)) (λ b. Violated (station_plan station.now) (station_world station.now) b) }
 {
-    let plan = station.plan();
-    let interlocking = station.interlocking();
-    let lies = station.lies();
-    let occupied = seen::occupancy(station);
-    if let Some(b) = misplaced(station, plan, &interlocking, &lies, &occupied) {
-        return Some(b);
-    }
-    misheld(station, plan, &interlocking, &lies, &occupied)
-}
-
-fn side(left: bool) -> &'static str {
-    if left { "left" } else { "right" }
+    let scene = Scene::new(station);
+    scene.misplaced().or(scene.misheld())
 }
 
 // One sentence for people.

@@ -1,14 +1,11 @@
 // Rows of events played in sound and unsound plans, and what is named after each event.
 #![tactic(auto)]
 
-use interlocking::Request;
-use model::Event;
 use model::station::Station;
-use plan::read::refusal;
 use plan::view::Plan;
-use script::{Script, read_events};
+use script::Script;
 use std::alloc::{AllocError, Global};
-use text::read::read_plan;
+use trial::in_station;
 use watch::first_broken;
 
 // Plays events and looks after each: for each after which something is broken its number, from 0, and what; `can't` for one that is not done.
@@ -30,66 +27,21 @@ fn looked(heap: Global, plan: Plan<'_>, script: &Script) -> Result<String, Alloc
 
 // The same for texts.
 pub fn played(heap: Global, plan: &str, events: &str) -> Result<String, AllocError> {
-    let Ok(numbers) = read_plan(heap, plan) else {
-        return String::from_str(heap, "the plan can't be read");
-    };
-    if refusal(numbers.as_slice()).is_some() {
-        return String::from_str(heap, "the plan is refused");
-    }
-    let Ok(script) = read_events(heap, events) else {
-        return String::from_str(heap, "the events can't be read");
-    };
-    looked(heap, Plan::new(numbers.as_slice()), &script)
-}
-
-// A number that follows another, as if by chance.
-fn next(seed: u32) -> u32 {
-    seed.wrapping_mul(1664525).wrapping_add(1013904223)
-}
-
-// An event by chance, with four trains, eight routes and six sections; signals are cleared and points turn more often.
-fn event_of(seed: u32) -> Event {
-    let n = ((seed >> 8) % 8) as usize;
-    let train = n % 4;
-    let section = n % 6;
-    match (seed >> 16) % 14 {
-        0 | 1 => Event::Asked(Request::Ask(n)),
-        2 | 3 => Event::Asked(Request::Clear(n)),
-        4 => Event::Asked(Request::Back(n)),
-        5 => Event::Asked(Request::Free(section)),
-        6 => Event::Asked(Request::Tick),
-        7 => Event::Turns(n % 2),
-        8 => Event::Comes(train, section < 3, section),
-        9 => Event::Reverses(train),
-        10 => Event::Leaves(train),
-        11 => Event::Draws(train),
-        _ => Event::Goes(train),
-    }
+    in_station(
+        heap,
+        plan,
+        events,
+        |plan, script| looked(heap, plan, script),
+    )
 }
 
 // So many events by chance, each looked after: how many were done, and after how many something was broken.
 pub fn by_chance(heap: Global, plan: &str, count: u32) -> Result<String, AllocError> {
-    let Ok(numbers) = read_plan(heap, plan) else {
-        return String::from_str(heap, "the plan can't be read");
-    };
-    if refusal(numbers.as_slice()).is_some() {
-        return String::from_str(heap, "the plan is refused");
-    }
-    let mut station = Station::new(heap, Plan::new(numbers.as_slice()), [true; 32])?;
-    let mut seed = 7;
-    let mut done = 0u32;
-    let mut bad = 0u32;
-    for _ in 0..count {
-        seed = next(seed);
-        if station.step(event_of(seed))? {
-            done = done.saturating_add(1);
-        }
-        if first_broken(&station).is_some() {
-            bad = bad.saturating_add(1);
-        }
-    }
-    let many = done > count / 10;
-    format!(in heap; "many done: {many}, broken after {bad}")
+    in_station(heap, plan, "", |plan, _| {
+        let (done, bad) = trial::by_chance(heap, plan, count)?;
+        let many = done > count / 10;
+        format!(in heap; "many done: {many}, broken after {bad}")
+    })
 }
 
 #[cfg(test)]

@@ -1,13 +1,13 @@
-use Rattle.std.proofs.Common.{◌≡◌, true, sym, ◌∙◌, below_more}
+use Rattle.std.proofs.Common.{◌≡◌, true, arith, rules}
+use Rattle.std.proofs.lemmas.Iterator.{first_from_find, YieldsList-from_slice}
+use Rattle.std.proofs.lemmas.Iterator.Consumers.{YieldsList-from_copied}
 use Rattle.plan.specs.Plan.{among}
-use Rattle.watch.proofs.Lists.{among_at, each_looked, not_both}
+use Rattle.watch.proofs.Looks.{found_among}
 use Rattle.watch.proofs.fleet.shared.Goals as goal
 
-pub returns-then-found : goal.returns-then-found
-returns-then-found c = (among_at _ _ c.loop-x-test.true, sym c.found.ensures ∙ c.if-found.true)
-
-pub loop-x-preserved : goal.loop-x-preserved
-loop-x-preserved c = below_more _ _ c.loop-x.invariant (not_both _ (sym c.found.ensures ∙ c.if-found.false))
-
 pub returns : goal.returns
-returns c = each_looked (λ x. among x c.args.b.now ≡ true → ⊥) _ _ c.loop-x-test.false c.loop-x.invariant
+returns c =
+    found_among c.args.a.now (λ x. among x c.args.b.now ≡ true → ⊥) (λ x. among x c.args.b.now ≡ true) _
+    (first_from_find _ _ _ (λ x. among x c.args.b.now ≡ true) (λ x. among x c.args.b.now ≡ true → ⊥) c.find.ensures.ran (YieldsList-from_copied (YieldsList-from_slice c.args.a.now (search rules)))
+    (λ x q k. grind arith)
+    (λ x q k. (search rules, grind arith)))
