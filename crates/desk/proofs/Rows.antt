@@ -1,7 +1,10 @@
 -- A row of those that wait: what is asked for, withdrawn and served, over lists.
-use Rattle.std.proofs.Common.{◌≡◌, ℕ, suc, ◌+◌, ◌<◌, ◌≤◌, Bool, true, false, ◌||◌, eqb, ltb, cond, List, [], ◌∷◌, ◌++◌, length, get_or, take, drop, Some, None, refl, ap, ◌∙◌, arith, ltb-true, ltb-false}
-use Rattle.std.proofs.lemmas.List.{at_drop_more, at_drop_all, append_assoc, append-nil}
-use Rattle.std.specs.List.{position_or_len, remove}
+use Rattle.std.proofs.Common.{◌≡◌, ℕ, zero, suc, ◌+◌, ◌-◌, ◌<◌, ◌≤◌, Bool, true, false, ◌||◌, eqb, List, [], ◌∷◌, ◌++◌, length, get_or, take, drop, set, ltb, cond, Option, Some, None, refl, ap, ◌∙◌, add-one, arith, rules, ltb-false}
+use Rattle.std.proofs.lemmas.List.Sums.{prefix_len-le-length}
+use Rattle.std.proofs.lemmas.List.{at_drop_more, at_drop_all, append_assoc, append-nil, take_more_set, length-take, same_lists, places}
+use Rattle.std.specs.List.{position_or_len}
+use Rattle.std.specs.Option.{unwrap_or}
+use lib.Seq.{paste}
 use Rattle.plan.specs.Plan.{pick, Plan, Positions}
 use Rattle.plan.proofs.Walks.{folds_more, folds_all}
 use Rattle.interlocking.specs.State.{State, Occupancy, does, acts}
@@ -9,7 +12,7 @@ use Rattle.interlocking.specs.Says.{Says, state_of}
 use Rattle.interlocking.specs.declared.Interlocking.{Interlocking}
 use Rattle.interlocking.specs.declared.Answer.{Answer}
 use Rattle.interlocking.specs.declared.Request.{Request}
-use Rattle.desk.specs.Desk.{waits, first_at, without, served_all, answers, Rising, KeepsOrder}
+use Rattle.desk.specs.Desk.{waits, first_at, without, served_all, answers, Serves, Rising, KeepsOrder}
 use Rattle.desk.specs.Desk.Rising.{end, then}
 use Rattle.desk.specs.declared.Served.{Served}
 use Rattle.desk.specs.declared.Ticketed.{Ticketed}
@@ -24,13 +27,15 @@ position_is n (w ∷ ws) = let r = position_is n ws in go (eqb w.ticket n) refl 
     go true e r = grind arith
     go false e r = grind arith
 
-found_some : (p l i : ℕ) (b : Bool) → ltb p l ≡ b → Some i ≡ cond b (Some p) None → (i ≡ p) × (p < l)
-found_some p l i true q e = let k = ltb-true p l q in (cc, k)
-found_some p l i false q e = absurd (cc)
-
-found_none : (p l : ℕ) (b : Bool) → ltb p l ≡ b → None ≡ cond b (Some p) None → l ≤ p
-found_none p l true q e = absurd (cc)
-found_none p l false q e = ltb-false p l q
+pub place_is : (n : ℕ) (ws : List Ticketed) (r : Option ℕ) →
+    r ≡ cond (ltb (position_or_len (λ (w : Ticketed). eqb w.ticket n) ws) (length ws)) (Some (position_or_len (λ (w : Ticketed). eqb w.ticket n) ws)) None → unwrap_or r (length ws) ≡ first_at n ws
+place_is n ws r e =
+    let l : position_or_len (λ (w : Ticketed). eqb w.ticket n) ws ≤ length ws = prefix_len-le-length _ ws in
+    go (position_or_len (λ (w : Ticketed). eqb w.ticket n) ws) (ltb (position_or_len (λ (w : Ticketed). eqb w.ticket n) ws) (length ws)) refl l e ∙ position_is n ws
+  where
+    go : (p : ℕ) (b : Bool) → ltb p (length ws) ≡ b → p ≤ length ws → r ≡ cond b (Some p) None → unwrap_or r (length ws) ≡ p
+    go p true t l e = rw e
+    go p false t l e = let k = ltb-false p (length ws) t in rw e (omega arith)
 
 -- what goes is the first that has the ticket
 pub waits_at : (n : ℕ) (ws : List Ticketed) → first_at n ws < length ws → true ≡ waits n ws
@@ -71,6 +76,31 @@ goes_none n (w ∷ ws) l = go (eqb w.ticket n) refl (goes_none n ws)
     go : (b : Bool) → eqb w.ticket n ≡ b → (length ws ≤ first_at n ws → ws ≡ without n ws) → w ∷ ws ≡ pick (eqb w.ticket n) ws (w ∷ without n ws)
     go true e ih = let m : length (w ∷ ws) ≤ pick (eqb w.ticket n) 0 (suc (first_at n ws)) = l in absurd (let k = rw e at m in omega arith)
     go false e ih = let m : length (w ∷ ws) ≤ pick (eqb w.ticket n) 0 (suc (first_at n ws)) = l in rw e (ap (λ zs. w ∷ zs) (ih (let k = rw e at m in omega arith)))
+
+-- the row, one more behind
+pub row_more : (xs : List Ticketed) (c n : ℕ) (w : Ticketed) → n ≡ length (take c xs) → n < length xs → take (n + 1) (set xs n w) ≡ take c xs ++ w ∷ []
+row_more xs c n w e l =
+    let a = length-take c xs in
+    let f : c ≡ n = omega arith in
+    let b = take_more_set xs n w l in cc
+
+-- the row, one less from some place on
+pub row_less : (xs : List Ticketed) (c n i : ℕ) → length xs ≡ 64 → n ≡ length (take c xs) → i < n →
+    take (n - 1) (paste xs i (drop (i + 1) xs) (length xs - (i + 1))) ≡ take i (take c xs) ++ drop (i + 1) (take c xs)
+row_less xs c n i m e l =
+    let a = length-take c xs in
+    same_lists _ _ (search (rules, places)) (λ k d h. grind (arith, places))
+
+-- the row, served from the front
+pub serves_one : (p : Plan) (h : Interlocking) (s : Occupancy) (t : Positions) (ws rest : List Ticketed) (left : Interlocking) (v : Served) (d : Ticketed) → (length ws ≡ 0 → ⊥) →
+    rest ≡ drop 1 ws → v.ticket ≡ (get_or ws 0 d).ticket → Says p h s t (get_or ws 0 d).request left v.answer → Serves p h s t ws rest left (Some v)
+serves_one p h s t [] rest left v d f e g k = absurd (f refl)
+serves_one p h s t (w ∷ ws) rest left v d f e g k = (e, g, k)
+
+pub row_first : (xs : List Ticketed) (c : ℕ) (d : Ticketed) → (length (take c xs) ≡ 0 → ⊥) → get_or xs 0 d ≡ get_or (take c xs) 0 d
+row_first xs zero d f = absurd (f refl)
+row_first [] (suc c) d f = refl
+row_first (x ∷ xs) (suc c) d f = refl
 
 -- all served, one after the other
 module _ (p : Plan) (s : Occupancy) (t : Positions) where
@@ -142,15 +172,16 @@ order_kept = record {
 pub none_served : (vs us : List Served) → vs ≡ [] → vs ++ us ≡ us
 none_served vs us e = rw e
 
--- a ticket withdrawn, at the place where it was found
-pub withdrawn_one : (n : ℕ) (ws : List Ticketed) (p i : ℕ) → p ≡ first_at n ws → Some i ≡ cond (ltb p (length ws)) (Some p) None → (true ≡ waits n ws) × (remove ws i ≡ without n ws)
-withdrawn_one n ws p i e f =
-    let k = found_some p (length ws) i (ltb p (length ws)) refl f in
-    let a : i ≡ first_at n ws = k.0 ∙ e in
-    let l : first_at n ws < length ws = omega arith in
-    (waits_at n ws l, ap (remove ws) a ∙ goes_one n ws l)
+-- a ticket withdrawn: the row that was looked at is the row, and the place is where it stands
+pub withdrawn_one : (n : ℕ) (ws vs : List Ticketed) (i m : ℕ) (rest : List Ticketed) → vs ≡ ws → i ≡ first_at n vs → m ≡ length ws → i < m → rest ≡ take i ws ++ drop (i + 1) ws →
+    (true ≡ waits n ws) × (rest ≡ without n ws)
+withdrawn_one n ws vs i m rest e f g l r =
+    let h : i ≡ first_at n ws = f ∙ ap (first_at n) e in
+    let k : first_at n ws < length ws = omega arith in
+    let a = goes_one n ws k in
+    let b = add-one i in (waits_at n ws k, cc)
 
-pub withdrawn_none : (n : ℕ) (ws : List Ticketed) (p : ℕ) → p ≡ first_at n ws → None ≡ cond (ltb p (length ws)) (Some p) None → (false ≡ waits n ws) × (ws ≡ without n ws)
-withdrawn_none n ws p e f =
-    let k = found_none p (length ws) (ltb p (length ws)) refl f in
-    let l : length ws ≤ first_at n ws = omega arith in (waits_not n ws l, goes_none n ws l)
+pub withdrawn_none : (n : ℕ) (ws vs : List Ticketed) (i m : ℕ) → vs ≡ ws → i ≡ first_at n vs → m ≡ length ws → m ≤ i → (false ≡ waits n ws) × (ws ≡ without n ws)
+withdrawn_none n ws vs i m e f g l =
+    let h : i ≡ first_at n ws = f ∙ ap (first_at n) e in
+    let k : length ws ≤ first_at n ws = omega arith in (waits_not n ws k, goes_none n ws k)

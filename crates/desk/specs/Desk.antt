@@ -1,5 +1,5 @@
 -- Requests that wait, and how they are served. Assumes nothing: these are definitions.
-use Rattle.std.specs.Prelude.{◌≡◌, ℕ, suc, ◌+◌, ◌-◌, ◌^◌, ◌≤◌, Bool, true, false, ◌||◌, List, [], ◌∷◌, ◌++◌, length, Some, None, Ok, Err, Option, Result, ◌==◌, nat_le}
+use Rattle.std.specs.Prelude.{◌≡◌, ℕ, suc, ◌+◌, ◌-◌, ◌^◌, ◌≤◌, Bool, true, false, ◌||◌, List, [], ◌∷◌, ◌++◌, length, take, Some, None, Ok, Err, Option, Result, ◌==◌, nat_le}
 use Rattle.plan.specs.Plan.{pick, Plan, Positions}
 use Rattle.interlocking.specs.State.{State, Occupancy, does, acts}
 use Rattle.interlocking.specs.Says.{Says}
@@ -12,7 +12,7 @@ use Rattle.desk.specs.declared.Ticketed.{Ticketed}
 
 -- those that wait, oldest first
 abbrev pub waiting_of : Desk → List Ticketed
-waiting_of d = d.waiting.items
+waiting_of d = take d.count d.places
 
 -- no room, or no number left
 abbrev pub is_full : Desk → Bool

@@ -1,13 +1,12 @@
 // The desk: requests that people make wait in a row, and are served in order.
 #![tactic(auto)]
 
-ghost use Rattle.std.specs.Prelude.{◌≡◌, ◌≤◌, [], length, IfOk, MatchResult, ◌==◌};
-ghost use Rattle.desk.specs.Desk.{answers, Asked, KeepsOrder, served_all, Serves, waiting_of, waits, without};
+ghost use Rattle.std.specs.Prelude.{◌≡◌, ◌+◌, ◌-◌, ◌^◌, ◌<◌, ◌≤◌, ◌||◌, [], ◌++◌, length, take, drop, IfOk, MatchResult, ◌==◌, nat_le};
+ghost use Rattle.desk.specs.Desk.{answers, Asked, first_at, KeepsOrder, served_all, Serves, waiting_of, waits, without};
 ghost use Rattle.interlocking.specs.Says.{state_of};
 ghost use Rattle.plan.specs.Plan.{marks};
 ghost use Rattle.plan.specs.View.{plan_of};
 
-use arrayvec::ArrayVec;
 use interlocking::{Answer, Interlocking, Request, Sight};
 use std::alloc::{AllocError, Global};
 
@@ -32,11 +31,42 @@ pub struct Served {
 #[derive(Clone, Copy, Debug, PartialEq, Eq)]
 pub struct Full;
 
-// What waits, oldest first, and the next number.
-#[derive(Drop)]
+// The first so many places hold what waits, oldest first; what stands behind them counts for nothing.
+// An array, so that a desk is `Copy`, which an `ArrayVec` is not.
+#[derive(Clone, Copy)]
 pub struct Desk {
-    waiting: ArrayVec<Ticketed, CAPACITY>,
+    places: [Ticketed; CAPACITY],
+    count: usize,
     next: u64,
+}
+
+// Is there no room, or no number left?
+fn is_full(count: usize, next: u64) -> bool
+    ensures { result ≡ (nat_le 64 count || nat_le (2 ^ 64 - 1) next) }
+{
+    count >= CAPACITY || next == u64::MAX
+}
+
+// The first so many, or all.
+fn front(places: &[Ticketed], count: usize) -> &[Ticketed]
+    ensures row { result.now ≡ take count places.now }
+    ensures few { length result.now ≤ length places.now }
+{
+    if count < places.len() {
+        &places[..count]
+    } else {
+        places
+    }
+}
+
+// Where a ticket stands among those that wait, or past the last.
+fn place_of(waiting: &[Ticketed], ticket: u64) -> usize
+    ensures { result ≡ first_at ticket waiting.now }
+{
+    waiting
+        .iter()
+        .position(|w| w.ticket == ticket)
+        .unwrap_or(waiting.len())
 }
 
 impl Desk {
@@ -46,7 +76,8 @@ impl Desk {
         ensures first { result.next ≡ 0 }
     {
         Desk {
-            waiting: ArrayVec::new(),
+            places: [Ticketed::default(); CAPACITY],
+            count: 0,
             next: 0,
         }
     }
@@ -56,13 +87,13 @@ impl Desk {
         ensures count { result ≡ length (waiting_of self.now) }
         ensures few { result ≤ 64 }
     {
-        self.waiting.len()
+        self.waiting().len()
     }
 
     pub fn is_empty(&self) -> bool
         ensures { result ≡ (length (waiting_of self.now) == 0) }
     {
-        self.waiting.is_empty()
+        self.len() == 0
     }
 
     // Those that wait, oldest first.
@@ -70,20 +101,34 @@ impl Desk {
         ensures row { result.now ≡ waiting_of self.now }
         ensures few { length result.now ≤ 64 }
     {
-        self.waiting.as_slice()
+        front(&self.places, self.count)
     }
 
     // A request waits behind all others, under a number of its own; a full desk refuses it and stays as it is.
     pub fn ask(&mut self, request: Request) -> Result<u64, Full>
         ensures { Asked request self.old self.new result }
     {
-        if self.waiting.is_full() || self.next == u64::MAX {
+        let count = self.len();
+        let ticket = self.next;
+        if is_full(count, ticket) {
             return Err(Full);
         }
-        let ticket = self.next;
-        self.waiting.push(Ticketed { ticket, request });
+        self.places[count] = Ticketed { ticket, request };
+        self.count = count + 1;
         self.next = ticket + 1;
         Ok(ticket)
+    }
+
+    // Those behind a place move up by one.
+    fn remove(&mut self, i: usize)
+        requires within { i < 64 }
+        requires waits { i < length (waiting_of self.old) }
+        ensures waiting { waiting_of self.new ≡ take i (waiting_of self.old) ++ drop (i + 1) (waiting_of self.old) }
+        ensures next { self.new.next ≡ self.old.next }
+    {
+        let count = self.len();
+        self.places.copy_within(i + 1.., i);
+        self.count = count - 1;
     }
 
     // A request is withdrawn while it waits: it goes, and the others stay in their order.
@@ -93,12 +138,12 @@ impl Desk {
         ensures waiting { waiting_of self.new ≡ without ticket (waiting_of self.old) }
         ensures next { self.new.next ≡ self.old.next }
     {
-        let waiting = self.waiting.as_slice();
-        let Some(i) = waiting.iter().position(|w| w.ticket == ticket) else {
-            return false;
-        };
-        self.waiting.remove(i);
-        true
+        let i = place_of(self.waiting(), ticket);
+        if i < self.len() {
+            self.remove(i);
+            return true;
+        }
+        false
     }
 
     // The oldest is served, if anybody waits.
@@ -111,10 +156,12 @@ impl Desk {
         ensures served { Serves (plan_of sight.entry.plan) interlocking (marks sight.entry.occupied.now) (marks sight.entry.lies.now) (waiting_of self.old) (waiting_of self.new) result.0 result.1 }
         ensures next { self.new.next ≡ self.old.next }
     {
-        let Some(first) = self.waiting.pop_at(0) else {
+        if self.is_empty() {
             return (interlocking, None);
-        };
+        }
+        let first = self.places[0];
         let (left, answer) = interlocking.perform(sight, first.request);
+        self.remove(0);
         (
             left,
             Some(Served {
@@ -134,8 +181,8 @@ impl Desk {
         ensures served { MatchResult result (λ a. (state_of a.0 ≡ served_all (plan_of sight.entry.plan) (marks sight.entry.occupied.now) (marks sight.entry.lies.now) (waiting_of self.old) (state_of interlocking)) × (a.1.items ≡ answers (plan_of sight.entry.plan) (marks sight.entry.occupied.now) (marks sight.entry.lies.now) (waiting_of self.old) (state_of interlocking)) × (waiting_of self.new ≡ [])) (λ _. self.new ≡ self.old) }
         ensures next { self.new.next ≡ self.old.next }
     {
-        let (left, served) = answer_all(heap, self.waiting.as_slice(), interlocking, sight)?;
-        self.waiting.clear();
+        let (left, served) = answer_all(heap, self.waiting(), interlocking, sight)?;
+        self.count = 0;
         Ok((left, served))
     }
 }
