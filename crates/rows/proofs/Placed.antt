@@ -1,5 +1,5 @@
 -- A part in its place, and how many numbers a plan's parts are.
-use Rattle.std.proofs.Common.{◌≡◌, ℕ, ◌+◌, ◌*◌, ◌<◌, ◌≤◌, Bool, true, false, ◌&&◌, eqb, leb, List, [], ◌∷◌, ◌++◌, length, take, drop, slice_index_or, Some, None, Option, sym, refl, ap, ◌∙◌, append_assoc, arith, length-append, length-take-le}
+use Rattle.std.proofs.Common.{◌≡◌, ℕ, ◌+◌, ◌*◌, ◌≤◌, Bool, true, false, ◌&&◌, eqb, leb, List, [], ◌∷◌, ◌++◌, length, take, Some, None, Option, sym, refl, ap, ◌∙◌, append_assoc, arith, length-append, length-take-le}
 use borrow.Rule.Slice.PartMut.{put_mid}
 use Rattle.plan.specs.Plan.{pick}
 use Rattle.plan.specs.Numbers.{bad_size, numbered, refused, sized, too_large, whole}
@@ -10,10 +10,7 @@ use Rattle.plan.specs.declared.Size.TheVariants as size
 use Rattle.std.proofs.lemmas.Slice.{put_mid-paste}
 use Rattle.rows.specs.declared.Rows.{Rows}
 use Rattle.rows.specs.declared.Sizes.{Sizes}
-use Rattle.std.proofs.Math.ListN.{drop_of_length-le}
-use Rattle.std.proofs.lemmas.List.{drop_more}
-use Rattle.plan.specs.declared.Need.{Need}
-use Rattle.rows.specs.Rows.{bit, few, needs_in, numbers_in, parts_in, sizes_in, NotLength, put_in}
+use Rattle.rows.specs.Rows.{few, numbers_in, parts_in, sizes_in, NotLength, put_in}
 
 pub put_fits : (k m : ℕ) (xs ys part : List ℕ) → k + length part ≤ length xs → ys ≡ part → m ≡ length part → put_mid k m xs ys ≡ put_in xs k part
 unfolding put_in
@@ -81,16 +78,3 @@ all_parts s r v a b c f e ea eb ec la lb lc =
     let n : length v ≡ whole v = rw e2 (long s.sections s.points s.time s.routes a b c ja jb jc) in
     let x : v ≡ sizes_in s ++ pick (few s) (parts_in s r) [] = rw (f, ← ea, ← eb, ← ec) e2 in
     (x, exact v n)
-
--- one need placed, and those after it
-pub placed : (xs : List ℕ) (k i b : ℕ) (ns : List Need) (d : Need) → i < length ns → b ≡ bit (slice_index_or ns i d).left →
-    needs_in (put_in xs (k + 2 * i) ((slice_index_or ns i d).point ∷ (b ∷ []))) (k + 2 * (i + 1)) (drop (i + 1) ns) ≡ needs_in xs (k + 2 * i) (drop i ns)
-unfolding needs_in
-placed xs k i b ns d h e =
-    let n : k + 2 * (i + 1) ≡ k + 2 * i + 2 = omega arith in
-    rw (drop_more ns i d h, n, e) refl
-
--- all needs placed
-pub all_placed : (xs : List ℕ) (k i : ℕ) (ns : List Need) → length ns ≤ i → needs_in xs k (drop i ns) ≡ xs
-unfolding needs_in
-all_placed xs k i ns h = rw (drop_of_length-le ns h) refl

@@ -1,11 +1,13 @@
 -- The numbers of a plan's parts, and where they stand. Assumes nothing: these are definitions.
-use Rattle.std.specs.Prelude.{ℕ, ◌+◌, ◌-◌, ◌*◌, ◌^◌, min, Bool, ◌&&◌, ◌||◌, List, [], ◌∷◌, ◌++◌, length, replicate, take, Some, None, Option, nat_le, nat_lt}
+use Rattle.std.specs.Prelude.{ℕ, ◌+◌, ◌-◌, ◌*◌, ◌^◌, min, Bool, ◌&&◌, ◌||◌, List, [], ◌∷◌, ◌++◌, length, take, Some, None, Option, nat_le, nat_lt, slice_set}
 use Rattle.std.proofs.Math.Seq.{paste}
 use Rattle.plan.specs.Plan.{pick}
 use Rattle.plan.specs.declared.End.{End}
 use Rattle.plan.specs.declared.Refusal.{Refusal}
 use Rattle.plan.specs.declared.Refusal.TheVariants.{Sizes as OfSizes, Length, Number}
 use Rattle.plan.specs.declared.Need.{Need}
+use Rattle.rows.specs.declared.Needs.{Needs}
+use Rattle.rows.specs.declared.Path.{Path}
 use Rattle.rows.specs.declared.RouteText.{RouteText}
 use Rattle.rows.specs.declared.Rows.{Rows}
 use Rattle.rows.specs.declared.Sizes.{Sizes}
@@ -17,9 +19,16 @@ put_in xs k part = pick (nat_le (k + length part) (length xs)) (paste xs k part 
 abbrev pub bit : Bool → ℕ
 bit b = pick b 1 0
 
--- a count as a number of a plan holds it: at most the largest
-abbrev pub held : ℕ → ℕ
-held n = min n (2 ^ 16 - 1)
+-- one more, past the largest number no more
+abbrev pub counted : ℕ → ℕ
+counted n = min (n + 1) (2 ^ 16 - 1)
+
+-- a path with one more section, and needs with one more, written where there is room
+abbrev pub path_with : Path → ℕ → Path
+path_with p x = record { count = counted p.count; sections = slice_set p.sections p.count x }
+
+abbrev pub needs_with : Needs → Need → Needs
+needs_with n q = record { count = counted n.count; pairs = slice_set (slice_set n.pairs (2 * n.count) q.point) (2 * n.count + 1) (bit q.left) }
 
 -- a section's end up, and its end down
 abbrev pub ends_in : End → End → List ℕ
@@ -28,17 +37,11 @@ ends_in up down =
     (bit down.moves ∷ (down.point ∷ (down.on_left ∷ (down.on_right ∷ [])))))))
 
 abbrev pub head_in : RouteText → List ℕ
-head_in r = r.begin ∷ (bit r.up ∷ (held (length r.path.items) ∷ (held (length r.needs.items) ∷ [])))
+head_in r = r.begin ∷ (bit r.up ∷ (r.path.count ∷ (r.needs.count ∷ [])))
 
--- needs from a place on, each a point and 1 for left
-unfoldable pub needs_in : List ℕ → ℕ → List Need → List ℕ
-needs_in xs k [] = xs
-needs_in xs k (n ∷ ns) = needs_in (put_in xs k (n.point ∷ (bit n.left ∷ []))) (k + 2) ns
-
--- a route from a place on, with no more than 16 sections and 16 needs, and 0 in the places that are left
+-- a route from a place on
 abbrev pub route_in : List ℕ → ℕ → RouteText → List ℕ
-route_in xs k r =
-    needs_in (put_in (put_in (put_in xs k (replicate 52 0)) k (head_in r)) (k + 4) (take 16 r.path.items)) (k + 20) (take 16 r.needs.items)
+route_in xs k r = put_in (put_in (put_in xs k (head_in r)) (k + 4) r.path.sections) (k + 20) r.needs.pairs
 
 -- what lies beyond, among so many sections
 abbrev pub closed : ℕ → ℕ → ℕ

@@ -1,10 +1,10 @@
 // The numbers of a plan's parts, and where they stand.
 #![tactic(auto)]
 
-ghost use Rattle.std.specs.Prelude.{◌≡◌, ◌+◌, ◌*◌, ◌^◌, ◌<◌, ◌==◌, [], ◌∷◌, length, slice_index, take, IfOk};
+ghost use Rattle.std.specs.Prelude.{◌≡◌, ◌+◌, ◌*◌, ◌==◌, [], ◌∷◌, length, replicate, slice_index, IfOk};
 ghost use Rattle.plan.specs.Numbers.{refused};
 ghost use Rattle.plan.specs.Plan.{pick};
-ghost use Rattle.rows.specs.Rows.{closed, ends_in, few, held, needs_in, numbers_in, NotLength, put_in, route_in};
+ghost use Rattle.rows.specs.Rows.{closed, ends_in, few, needs_with, numbers_in, NotLength, path_with, put_in, route_in};
 
 use plan::{End, Need};
 use std::alloc::{AllocError, Global};
@@ -12,13 +12,72 @@ use std::alloc::{AllocError, Global};
 // The number of what lies outside: the format of plans has a number there, not an Option.
 pub const OUTSIDE: u16 = 1000;
 
-// A route as it is written.
-#[derive(Drop)]
+// A route as it is written. Its path and needs are arrays and a count, and no vectors: Copy, and never short of memory, however many a line has.
+#[derive(Clone, Copy)]
 pub struct RouteText {
     pub begin: u16,
     pub up: bool,
-    pub path: Vec<u16>,
-    pub needs: Vec<Need>,
+    pub path: Path,
+    pub needs: Needs,
+}
+
+// How many sections there are, and the first 16 of them.
+#[derive(Clone, Copy)]
+pub struct Path {
+    pub count: u16,
+    pub sections: [u16; 16],
+}
+
+// How many needs there are, and the first 16 of them, each a point and 1 for left.
+#[derive(Clone, Copy)]
+pub struct Needs {
+    pub count: u16,
+    pub pairs: [u16; 32],
+}
+
+impl Path {
+    pub fn none() -> Self
+        ensures { result ≡ record { count = 0; sections = replicate 16 0 } }
+    {
+        Path {
+            count: 0,
+            sections: [0; 16],
+        }
+    }
+
+    // One more section; past the sixteenth it is only counted.
+    pub fn push(&mut self, x: u16)
+        ensures { self.new ≡ path_with self.old x }
+    {
+        let k = usize::from(self.count);
+        self.count = self.count.saturating_add(1);
+        if k < 16 {
+            self.sections[k] = x;
+        }
+    }
+}
+
+impl Needs {
+    pub fn none() -> Self
+        ensures { result ≡ record { count = 0; pairs = replicate 32 0 } }
+    {
+        Needs {
+            count: 0,
+            pairs: [0; 32],
+        }
+    }
+
+    // One more need; past the sixteenth it is only counted.
+    pub fn push(&mut self, need: Need)
+        ensures { self.new ≡ needs_with self.old need }
+    {
+        let k = usize::from(self.count);
+        self.count = self.count.saturating_add(1);
+        if k < 16 {
+            self.pairs[2 * k] = need.point;
+            self.pairs[2 * k + 1] = u16::from(need.left);
+        }
+    }
 }
 
 // The numbers of a plan's sections, points and routes. Arrays, since sections and points come in any order: a Vec would first have to be filled up to each one's place.
@@ -86,41 +145,16 @@ pub fn place_point(places: &mut [u16], q: u16, place: u16)
     put(places, usize::from(q), &[place]);
 }
 
-// A route's 52 numbers: past the sixteenth, sections and needs are only counted.
+// A route's 52 numbers, in three parts.
 pub fn place_route(routes: &mut [u16], r: u16, route: &RouteText)
     ensures { routes.new ≡ route_in routes.old (52 * r) route.now }
 {
     let k = 52 * usize::from(r);
-    let sections = held(route.path.len());
-    let needs = held(route.needs.len());
-    let head = [route.begin, u16::from(route.up), sections, needs];
-    put(routes, k, &[0; 52]);
+    let up = u16::from(route.up);
+    let head = [route.begin, up, route.path.count, route.needs.count];
     put(routes, k, &head);
-    put(routes, k + 4, first(&route.path));
-    place_needs(routes, k + 20, first(&route.needs));
-}
-
-fn place_needs(routes: &mut [u16], k: usize, needs: &[Need])
-    requires { k + 2 * length needs.now < 2 ^ 64 }
-    ensures { routes.new ≡ needs_in routes.old k needs.now }
-{
-    for (i, need) in needs.iter().enumerate() {
-        put(routes, k + 2 * i, &[need.point, u16::from(need.left)]);
-    }
-}
-
-// As a number of a plan; what is too large to hold is held as the largest, which no plan may have.
-fn held(n: usize) -> u16
-    ensures { result ≡ held n }
-{
-    u16::try_from(n).unwrap_or(u16::MAX)
-}
-
-// The first 16.
-fn first<T>(all: &[T]) -> &[T]
-    ensures { result.now ≡ take 16 all.now }
-{
-    &all[..all.len().min(16)]
+    put(routes, k + 4, &route.path.sections);
+    put(routes, k + 20, &route.needs.pairs);
 }
 
 // What lies beyond an end: a number that is no section is outside. Larger ones than outside stay, to be refused.

@@ -2,8 +2,7 @@
 #![tactic(auto)]
 
 use plan::{End, Need};
-use rows::{OUTSIDE, RouteText};
-use std::alloc::{AllocError, Global};
+use rows::{Needs, OUTSIDE, Path, RouteText};
 use words::cursor::{Cursor, Wrong};
 use words::fault::Expected;
 use words::{Token, Word};
@@ -31,7 +30,8 @@ pub static WORDS: [Word; 16] = [
     Word::Right,
 ];
 
-#[derive(Drop)]
+// Copy, since a route's path and needs are arrays.
+#[derive(Clone, Copy)]
 pub enum Statement {
     // A section, and what lies beyond its upper end and its lower end.
     Section(u16, End, End),
@@ -45,7 +45,7 @@ pub enum Statement {
 }
 
 // The statement of a line that is not empty, or what is wrong with it.
-pub fn statement_of(heap: Global, tokens: &[Token]) -> Result<Statement, Wrong> {
+pub fn statement_of(tokens: &[Token]) -> Result<Statement, Wrong> {
     let mut cursor = Cursor::new(tokens);
     let wrong = cursor.wrong(Expected::Statement);
     let Some(Token::Word(first)) = cursor.peek() else {
@@ -57,7 +57,7 @@ pub fn statement_of(heap: Global, tokens: &[Token]) -> Result<Statement, Wrong> 
         Word::Point => point(cursor),
         Word::Signal => signal(cursor),
         Word::Edge => edge(cursor),
-        Word::Route => route(heap, cursor),
+        Word::Route => route(cursor),
         Word::Time => time(cursor),
         _ => Err(wrong),
     }
@@ -148,12 +148,11 @@ fn time(mut cursor: Cursor<'_>) -> Result<Statement, Wrong> {
     Ok(Statement::Time(n))
 }
 
-// Only a route's parts need the heap, so it stands beside the cursor and not in it.
-fn route(heap: Global, mut cursor: Cursor<'_>) -> Result<Statement, Wrong> {
+fn route(mut cursor: Cursor<'_>) -> Result<Statement, Wrong> {
     let up = cursor.either(Word::Up, Word::Down, Expected::Way)?;
     let begin = begin_of(&mut cursor)?;
-    let path = path_of(heap, &mut cursor)?;
-    let needs = last_needs(heap, &mut cursor)?;
+    let path = path_of(&mut cursor);
+    let needs = last_needs(&mut cursor)?;
     Ok(Statement::Route(RouteText {
         begin,
         up,
@@ -169,30 +168,30 @@ fn begin_of(cursor: &mut Cursor<'_>) -> Result<u16, Wrong> {
     Ok(begin)
 }
 
-fn path_of(heap: Global, cursor: &mut Cursor<'_>) -> Result<Vec<u16>, AllocError> {
-    let mut path = Vec::new(heap);
+fn path_of(cursor: &mut Cursor<'_>) -> Path {
+    let mut path = Path::none();
     while let Some(x) = cursor.number_if() {
-        path.push(x)?;
+        path.push(x);
     }
-    Ok(path)
+    path
 }
 
 // The needs that end a line, which may have none.
-fn last_needs(heap: Global, cursor: &mut Cursor<'_>) -> Result<Vec<Need>, Wrong> {
+fn last_needs(cursor: &mut Cursor<'_>) -> Result<Needs, Wrong> {
     if !cursor.word_if(Word::Needs) {
         cursor.finish(Expected::Path)?;
-        return Ok(Vec::new(heap));
+        return Ok(Needs::none());
     }
-    let needs = needs_of(heap, cursor)?;
+    let needs = needs_of(cursor)?;
     cursor.finish(Expected::Needs)?;
     Ok(needs)
 }
 
-fn needs_of(heap: Global, cursor: &mut Cursor<'_>) -> Result<Vec<Need>, Wrong> {
-    let mut needs = Vec::new(heap);
+fn needs_of(cursor: &mut Cursor<'_>) -> Result<Needs, Wrong> {
+    let mut needs = Needs::none();
     while let Some(point) = cursor.number_if() {
         let left = cursor.either(Word::Left, Word::Right, Expected::Side)?;
-        needs.push(Need { point, left })?;
+        needs.push(Need { point, left });
     }
     Ok(needs)
 }

@@ -4,16 +4,16 @@ ghost use Rattle.rows.specs.Rows.{NotLength};
 ghost use Rattle.std.specs.Prelude.{IfOk};
 
 use rows::{RouteText, Rows, Sizes};
-use statement::Statement;
+use statement::{NUMBERED, Statement};
 use std::alloc::{AllocError, Global};
-use std::collections::BTreeMap;
 use words::Word;
 use words::fault::{Fault, Kind};
 
-// The line of each of a row of things, by their numbers.
-#[derive(Drop)]
+// The line of each of a row of things, by their numbers, with 0 for none, and how many there are. An array and a count, and no map: Copy, and never short of memory.
+#[derive(Clone, Copy)]
 pub struct Roll {
-    lines: BTreeMap<u16, usize>,
+    lines: [usize; 1000],
+    count: u16,
 }
 
 // A thing with no line, and the line that shows it.
@@ -30,7 +30,8 @@ struct Time {
     line: usize,
 }
 
-#[derive(Drop)]
+// Copy, since all that it holds is arrays and numbers.
+#[derive(Clone, Copy)]
 pub struct Draft {
     sections: Roll,
     points: Roll,
@@ -42,20 +43,29 @@ pub struct Draft {
 }
 
 impl Roll {
-    fn new(heap: Global) -> Self {
+    fn new() -> Self {
         Roll {
-            lines: BTreeMap::new(heap),
+            lines: [0; 1000],
+            count: 0,
         }
     }
 
     fn line(&self, x: u16) -> Option<usize> {
-        self.lines.get(&x).copied()
+        self.lines
+            .get(usize::from(x))
+            .copied()
+            .filter(|line| *line != 0)
     }
 
-    // Notes the line of a thing that has none.
-    fn enter(&mut self, x: u16, line: usize) -> Result<(), AllocError> {
-        self.lines.entry(x)?.or_insert(line);
-        Ok(())
+    // Notes the line of a thing that has none; of one that is too large to be numbered nothing.
+    fn enter(&mut self, x: u16, line: usize) {
+        let Some(place) = self.lines.get_mut(usize::from(x)) else {
+            return;
+        };
+        if *place == 0 {
+            *place = line;
+            self.count = self.count.saturating_add(1);
+        }
     }
 
     // Notes the line of a thing, which may have only one.
@@ -63,45 +73,33 @@ impl Roll {
         if let Some(before) = self.line(x) {
             return Err(Kind::Twice(word, x, before));
         }
-        self.enter(x, line)?;
+        self.enter(x, line);
         Ok(())
-    }
-
-    fn count(&self) -> u16 {
-        u16::try_from(self.lines.len()).unwrap_or(u16::MAX)
     }
 
     // The first thing that has no line though a later one has.
     fn gap(&self) -> Option<Gap> {
-        self.lines
-            .iter()
-            .zip(0..=u16::MAX)
-            .find(|((x, _), place)| *x != place)
-            .map(|((_, line), missing)| Gap {
-                missing,
-                line: *line,
-            })
+        let missing = (0..NUMBERED).find(|x| self.line(*x).is_none())?;
+        let line = (missing..NUMBERED).find_map(|x| self.line(x))?;
+        Some(Gap { missing, line })
     }
 
-    // The first line of one that is not in the other.
+    // The first line of one that is not in the other; the largest number is no line.
     fn not_in(&self, other: &Roll) -> Option<Gap> {
-        self.lines
-            .iter()
-            .filter(|(x, _)| other.line(**x).is_none())
-            .map(|(x, line)| Gap {
-                missing: *x,
-                line: *line,
-            })
+        (0..NUMBERED)
+            .filter(|x| other.line(*x).is_none())
+            .filter_map(|x| self.line(x).map(|line| Gap { missing: x, line }))
+            .filter(|gap| gap.line < usize::MAX)
             .min_by_key(|gap| gap.line)
     }
 }
 
 impl Draft {
-    pub fn new(heap: Global) -> Self {
+    pub fn new() -> Self {
         Draft {
-            sections: Roll::new(heap),
-            points: Roll::new(heap),
-            marked: Roll::new(heap),
+            sections: Roll::new(),
+            points: Roll::new(),
+            marked: Roll::new(),
             routes: 0,
             time: None,
             rows: Rows {
@@ -124,11 +122,11 @@ impl Draft {
                 rows::place_point(&mut self.rows.points, q, place);
             }
             Statement::Signal(up, x) => {
-                self.marked.enter(x, line)?;
+                self.marked.enter(x, line);
                 rows::place_signal(&mut self.rows.sections, up, x);
             }
             Statement::Edge(x) => {
-                self.marked.enter(x, line)?;
+                self.marked.enter(x, line);
                 rows::place_edge(&mut self.rows.sections, x);
             }
             Statement::Route(route) => self.route(&route),
@@ -143,7 +141,8 @@ impl Draft {
     }
 
     fn set_time<'a>(&mut self, line: usize, time: u16) -> Result<(), Kind<'a>> {
-        if let Some(before) = self.time {
+        // (0 is no line)
+        if let Some(before) = self.time.filter(|known| known.line != 0) {
             return Err(Kind::Second(before.line));
         }
         self.time = Some(Time { time, line });
@@ -170,8 +169,8 @@ impl Draft {
         ensures { IfOk result (λ v. NotLength (refused v.items)) }
     {
         let sizes = Sizes {
-            sections: self.sections.count(),
-            points: self.points.count(),
+            sections: self.sections.count,
+            points: self.points.count,
             time: self.time.map_or(0, |known| known.time),
             routes: self.routes,
         };

@@ -13,7 +13,7 @@ use words::fault::{Fault, Kind, kind_of};
 pub fn read_plan(heap: Global, text: &str) -> Result<Vec<u16>, Fault<Kind<'_>>>
     ensures { IfOk result (λ v. NotLength (refused v.items)) }
 {
-    let mut draft = Draft::new(heap);
+    let mut draft = Draft::new();
     let mut last = 1;
     for (i, line) in text.lines().enumerate() {
         last = i.saturating_add(1);
@@ -39,6 +39,6 @@ fn read_line<'a>(
     if tokens.is_empty() {
         return Ok(());
     }
-    let said = statement_of(heap, &tokens).map_err(|wrong| kind_of(text, wrong, &WORDS))?;
+    let said = statement_of(&tokens).map_err(|wrong| kind_of(text, wrong, &WORDS))?;
     draft.take(line, said)
 }

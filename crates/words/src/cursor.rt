@@ -1,33 +1,15 @@
 // A line's tokens, taken one after the other.
-ghost use Rattle.std.specs.Prelude.{◌≡◌, ◌<◌, ◌≤◌, length, IfSome};
-ghost use Rattle.words.specs.declared.cursor.Wrong.TheVariants.{Memory};
+ghost use Rattle.std.specs.Prelude.{◌≡◌, ◌<◌, ◌≤◌, length, IfErr, IfSome};
 
 use crate::fault::Expected;
 use crate::{Token, Word, token_of};
-use std::alloc::{AllocError, AllocFailed, Global};
+use std::alloc::{AllocError, Global};
 
-// Why a line can't be read: no memory is left, or which token is wrong and what should stand there. The cursor's own methods give only the second: a type for that alone would need one more `From`, and `?` reads the same.
+// Which token is wrong, and what should stand there. No case for memory: nothing that reads tokens asks for any.
 #[derive(Clone, Copy, Debug, PartialEq, Eq)]
-pub enum Wrong {
-    Memory,
-    Token(usize, Expected),
-}
-
-// The library has two types for want of memory, and `?` takes a `From` for each, whose clause names this enum's own `Memory`.
-impl From<AllocError> for Wrong {
-    ghost from_gives = { λ _ w. w ≡ Memory };
-
-    fn from(_e: AllocError) -> Self {
-        Wrong::Memory
-    }
-}
-
-impl<T: Drop> From<AllocFailed<T>> for Wrong {
-    ghost from_gives = { λ _ w. w ≡ Memory };
-
-    fn from(_e: AllocFailed<T>) -> Self {
-        Wrong::Memory
-    }
+pub struct Wrong {
+    pub at: usize,
+    pub expected: Expected,
 }
 
 // The tokens that are left, of so many: the place of a fault is counted from the first.
@@ -75,7 +57,10 @@ impl<'a> Cursor<'a> {
 
     // The fault of the token that comes next.
     pub fn wrong(&self, expected: Expected) -> Wrong {
-        Wrong::Token(self.count - self.rest.len(), expected)
+        Wrong {
+            at: self.count - self.rest.len(),
+            expected,
+        }
     }
 
     // The number that stands next.
@@ -93,11 +78,18 @@ impl<'a> Cursor<'a> {
         self.number_if().ok_or(self.wrong(expected))
     }
 
-    // A number below a bound, after a word.
-    pub fn below(&mut self, bound: u16, after: Word) -> Result<u16, Wrong> {
-        let too_large = self.wrong(Expected::Below(bound, after));
-        let n = self.number(Expected::Number(after))?;
-        if n < bound { Ok(n) } else { Err(too_large) }
+    // A number below a bound, after a word. What is refused is not taken, so it is looked at first.
+    pub fn below(&mut self, bound: u16, after: Word) -> Result<u16, Wrong>
+        ensures { IfErr result (λ _. self.new ≡ self.old) }
+    {
+        let Some(Token::Number(n)) = self.peek() else {
+            return Err(self.wrong(Expected::Number(after)));
+        };
+        if n >= bound {
+            return Err(self.wrong(Expected::Below(bound, after)));
+        }
+        self.step();
+        Ok(n)
     }
 
     // A number with a colon.

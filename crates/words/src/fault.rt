@@ -72,9 +72,7 @@ impl Expected {
 
 // What is wrong with the line, in which these are the known words.
 pub fn kind_of<'a>(text: &'a str, wrong: Wrong, known: &[Word]) -> Kind<'a> {
-    let Wrong::Token(at, expected) = wrong else {
-        return Kind::Memory;
-    };
+    let Wrong { at, expected } = wrong;
     let Some(found) = text.split_whitespace().nth(at) else {
         return Kind::Expected(expected, None);
     };
