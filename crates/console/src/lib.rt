@@ -11,8 +11,7 @@ ghost use Rattle.soundness.specs.Rules.{Judges, says_sound};
 ghost use Rattle.soundness.specs.declared.Verdict.{Verdict as Judgement};
 
 use model::Event;
-use soundness::Verdict;
-use soundness::judge::judge;
+use soundness::Outcome;
 use std::fmt::Display;
 use std::io::Print;
 use std::process::ExitCode;
@@ -75,18 +74,20 @@ pub fn write_file(rt: &HostRuntime, name: &str, text: &str) -> io::Result<bool> 
 pub fn is_sound(numbers: &[u16]) -> bool
     ensures { (r : Result Judgement NoPlan) × Judges numbers.now r × (result ≡ says_sound r) }
 {
-    matches!(judge(numbers), Ok(Verdict::Sound))
+    Outcome::of(numbers).is_sound()
 }
 
-// Prints the verdict on a plan, after its name where one is given.
+// Prints what the judge says of a plan, after its name where one is given.
+pub fn print_outcome(out: &impl Print, name: Option<&str>, outcome: Outcome) -> io::Result<()> {
+    match name {
+        Some(name) => println!(out; "{name}: {outcome}"),
+        None => println!(out; "{outcome}"),
+    }
+}
+
+// Judges a plan, and prints the verdict.
 pub fn print_verdict(out: &impl Print, name: Option<&str>, numbers: &[u16]) -> io::Result<()> {
-    if let Some(name) = name {
-        print!(out; "{name}: ")?;
-    }
-    match judge(numbers) {
-        Ok(verdict) => println!(out; "{verdict}"),
-        Err(refusal) => println!(out; "{refusal}"),
-    }
+    print_outcome(out, name, Outcome::of(numbers))
 }
 
 // Prints why a plan is not sound.

@@ -12,7 +12,7 @@ pub struct Needs<'a> {
 }
 
 // The need that a pair of numbers is.
-fn need_of(pair: [u16; 2]) -> Need
+pub(crate) fn need_of(pair: [u16; 2]) -> Need
     ensures { result ≡ need_in pair }
 {
     let [point, left] = pair;

@@ -1,11 +1,11 @@
 // Numbers read as a plan, and what the plan has at each place.
-ghost use Rattle.std.specs.Prelude.{◌≡◌, ℕ, ◌+◌, ◌*◌, ◌<◌, ◌≤◌, true, length, take, drop, slice_index};
+ghost use Rattle.std.specs.Prelude.{◌≡◌, ℕ, ◌+◌, ◌*◌, ◌<◌, ◌≤◌, true, length, take, drop, None, slice_index, slice_index_or};
 ghost use Rattle.std.specs.Result.{result_err};
 ghost use Rattle.plan.specs.Numbers.{bad_size, most, refused, routes_from, Stands, too_large};
 ghost use Rattle.plan.specs.Plan.{among, last_of, marks, met, needed, no_route, pick, repeated, route, sameb};
-ghost use Rattle.plan.specs.View.{end_of, needs_left, plan_of, route_of, Taken};
+ghost use Rattle.plan.specs.View.{end_of, needs_left, no_need, plan_of, route_of, Taken};
 
-use crate::needs::Needs;
+use crate::needs::{Needs, need_of};
 use crate::route::Route;
 use crate::view::Plan;
 use crate::{End, Need, Refusal, Size};
@@ -120,6 +120,13 @@ fn signal_place(up: bool, x: u16) -> usize
     }
 }
 
+// Why numbers are no plan, if they are none.
+pub fn refusal(numbers: &[u16]) -> Option<Refusal>
+    ensures { result ≡ refused numbers.now }
+{
+    check(numbers).err()
+}
+
 // The plan that numbers are, or why they are none.
 impl<'a> TryFrom<&'a [u16]> for Plan<'a> {
     type Error = Refusal;
@@ -128,11 +135,19 @@ impl<'a> TryFrom<&'a [u16]> for Plan<'a> {
 
     fn try_from(numbers: &'a [u16]) -> Result<Self, Refusal> {
         check(numbers)?;
-        Ok(Plan { numbers })
+        Ok(Plan::new(numbers))
     }
 }
 
 impl<'a> Plan<'a> {
+    // The plan that numbers are, for a caller who knows that they are one.
+    pub fn new(numbers: &'a [u16]) -> Self
+        requires { refused numbers.now ≡ None }
+        ensures { result.numbers.now ≡ numbers.now }
+    {
+        Plan { numbers }
+    }
+
     // The number at a place, or 0 past the end.
     fn number(self, k: usize) -> u16
         ensures { result ≡ slice_index self.entry.numbers.now k }
@@ -263,6 +278,19 @@ impl<'a> Route<'a> {
         let n = usize::from(self.numbers[3]);
         let (pairs, _) = self.numbers[20..20 + 2 * n].as_chunks::<2>();
         Needs { pairs }
+    }
+
+    // One of its needs; past the last, point 0 on the right.
+    pub fn need(self, i: usize) -> Need
+        ensures { result ≡ slice_index_or (route_of self.entry).needs i no_need }
+    {
+        match self.needs().pairs.get(i) {
+            Some(pair) => need_of(*pair),
+            None => Need {
+                point: 0,
+                left: false,
+            },
+        }
     }
 
     // Does it need a point?

@@ -5,15 +5,16 @@ use crate::again::replay_text;
 use crate::options::{Options, USAGE, options_of};
 use crate::show::Show;
 use anyhow::anyhow;
-use console::{Source, ended, is_sound, or_said, print_verdict, write_file};
+use console::{Source, ended, or_said, print_outcome, write_file};
 use journal::Journal;
 use model::run::Outcome as Run;
 use model::station::Station;
 use plan::view::Plan;
 use safety::run::run;
 use script::{Script, read_events};
-use std::env;
+use soundness::Outcome;
 use std::process::ExitCode;
+use std::{env, io};
 
 mod again;
 mod options;
@@ -91,23 +92,29 @@ fn play_events(show: &mut Show<'_>, plan: Plan<'_>, source: &Source<'_>) -> anyh
     }
 }
 
+// The numbers of a plan, whose text is let go once they are read; nothing where it can't be read, and that is said.
+fn numbers_of(rt: &HostRuntime, plan: Option<&str>) -> io::Result<Option<Vec<u16>>> {
+    match Source::open(rt, plan)? {
+        Some(office) => office.numbers(rt),
+        None => Ok(None),
+    }
+}
+
 // Plays or replays the file with the events or the journal, or the standard input, in the station of a plan.
 fn play_files(rt: &HostRuntime, options: Options<'_>) -> anyhow::Result<bool> {
     if options.plan.is_none() {
         return Err(anyhow!(USAGE));
     }
-    let Some(office) = Source::open(rt, options.plan)? else {
-        return Ok(false);
-    };
-    let Some(numbers) = office.numbers(rt)? else {
+    let Some(numbers) = numbers_of(rt, options.plan)? else {
         return Ok(false);
     };
     let numbers = numbers.as_slice();
     let Some(source) = Source::open(rt, options.replay.or(options.events))? else {
         return Ok(false);
     };
-    if !is_sound(numbers) {
-        print_verdict(&rt.stderr(), options.plan, numbers)?;
+    let outcome = Outcome::of(numbers);
+    if !outcome.is_sound() {
+        print_outcome(&rt.stderr(), options.plan, outcome)?;
     }
     let Ok(plan) = Plan::try_from(numbers) else {
         return Ok(false);

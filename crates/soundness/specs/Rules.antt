@@ -1,7 +1,7 @@
 -- The twelve rules of a plan, and which of them is broken first. Assumes nothing: these are definitions.
 use Rattle.std.specs.Prelude.{◌≡◌, ℕ, suc, ◌<◌, ◌≤◌, Bool, true, false, ◌⊎◌, List, [], ◌∷◌, ◌++◌, codes, decimal, length, None, Some, Ok, Err, Result, MatchResult, slice_index}
 use Rattle.plan.specs.Plan.{Route, Plan, Positions, beyond, route, met, among, needed, Leads, last_of, Once}
-use Rattle.plan.specs.Numbers.{plan_in, refused}
+use Rattle.plan.specs.Numbers.{plan_in, refused, refusal_text}
 use Rattle.plan.specs.declared.Refusal.{Refusal}
 use Rattle.soundness.specs.declared.RouteRule.{RouteRule}
 use Rattle.soundness.specs.declared.RouteRule.TheVariants.{Begins, Goes, Differs, Agrees, Knows, Hangs, Passes, Ends, Holds}
@@ -99,3 +99,8 @@ abbrev pub verdict_text : Verdict → List ℕ
 verdict_text IsSound = codes "sound"
 verdict_text (InRoute r k) = codes "route " ++ (decimal r ++ (codes " breaks " ++ decimal (route_number k)))
 verdict_text (InWhole k) = codes "breaks " ++ decimal (whole_number k)
+
+-- what is printed of what the judge says
+abbrev pub outcome_text : Result Verdict Refusal → List ℕ
+outcome_text (Ok v) = verdict_text v
+outcome_text (Err e) = refusal_text e
