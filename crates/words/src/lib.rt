@@ -156,10 +156,11 @@ fn all_digits(bytes: &[u8]) -> bool
     bytes.iter().all(|b| b.is_ascii_digit())
 }
 
+// No word has a digit or a colon, so what is told by its first or last byte comes before the table of words.
 pub fn token_of(text: &str) -> Token {
-    word_of(text)
-        .map(Token::Word)
-        .or_else(|| number_of(text).map(Token::Number))
+    number_of(text)
+        .map(Token::Number)
         .or_else(|| text.strip_suffix(':').and_then(number_of).map(Token::Label))
+        .or_else(|| word_of(text).map(Token::Word))
         .unwrap_or(Token::Other)
 }
