@@ -12,7 +12,7 @@ use symbols::{LineEnd, Spot};
 #[derive(Drop)]
 struct Sheet<'a, 'b> {
     plan: Plan<'a>,
-    layout: Layout<'a>,
+    layout: Layout,
     picture: &'b Picture,
     out: String,
 }

@@ -31,11 +31,15 @@ fn foreign(plan: Plan<'_>, up: bool, x: u16) -> Option<PlanFault>
 }
 
 // The same of either end of a section.
+// A `match` here and below, so that nothing is looked for behind the first fault: the check knows nothing of what a closure for `or_else` gives.
 fn foreign_at(plan: Plan<'_>, x: u16) -> Option<PlanFault>
     requires { x < (plan_of plan).sections }
     ensures { MatchOption result ((own (plan_of plan.entry) true x && own (plan_of plan.entry) false x) ≡ true) (BlamesWhole (plan_of plan.entry) Places) }
 {
-    foreign(plan, true, x).or(foreign(plan, false, x))
+    match foreign(plan, true, x) {
+        Some(fault) => Some(fault),
+        None => foreign(plan, false, x),
+    }
 }
 
 fn all_own(plan: Plan<'_>) -> Option<PlanFault>
@@ -57,7 +61,10 @@ fn all_placed(plan: Plan<'_>) -> Option<PlanFault>
 pub fn places(plan: Plan<'_>) -> Option<PlanFault>
     ensures { FindsWhole (plan_of plan.entry) Places result }
 {
-    all_own(plan).or(all_placed(plan))
+    match all_own(plan) {
+        Some(fault) => Some(fault),
+        None => all_placed(plan),
+    }
 }
 
 // Rule 11: no point has its place in an edge.
@@ -89,7 +96,10 @@ fn open_at(plan: Plan<'_>, x: u16) -> Option<PlanFault>
     if !plan.edge(x) {
         return None;
     }
-    open_end(plan, x, true).or(open_end(plan, x, false))
+    match open_end(plan, x, true) {
+        Some(fault) => Some(fault),
+        None => open_end(plan, x, false),
+    }
 }
 
 // Rule 12: each end of an edge has a signal that way or, however points lie, outside beyond it.

@@ -3,19 +3,27 @@
 
 use plan::view::Plan;
 
-// Where a section stands; it has no row until it is placed.
+// The columns where a section stands and where it ends; it has no row until it is placed.
 #[derive(Clone, Copy)]
 struct Cell {
     column: u8,
+    end: u8,
     row: Option<u8>,
 }
 
-// The cells are an array, as of the sections elsewhere: a layout asks for no memory.
+// The cells are an array, as of the sections elsewhere: a layout asks for no memory. It holds no plan, so the plan's numbers need not stay lent as long as it is kept.
 #[derive(Clone, Copy)]
-pub struct Layout<'a> {
-    plan: Plan<'a>,
+pub struct Layout {
     cells: [Cell; 64],
+    width: u8,
     height: u8,
+}
+
+// A layout, and the plan that it is made of.
+#[derive(Clone, Copy)]
+struct Placing<'a> {
+    plan: Plan<'a>,
+    layout: Layout,
 }
 
 // The sections beyond an end, on the left and on the right; an end that no point moves has only the one on the left. An end is a way and a section, as in `Plan::end`.
@@ -61,21 +69,24 @@ fn line_end(plan: Plan<'_>, x: u16) -> u16 {
     (0..64).fold(x, |last, _| next_in_line(plan, true, last).unwrap_or(last))
 }
 
-impl<'a> Layout<'a> {
-    pub fn new(plan: Plan<'a>) -> Layout<'a> {
+impl Layout {
+    pub fn new(plan: Plan<'_>) -> Layout {
         let unplaced = Cell {
             column: 0,
+            end: 1,
             row: None,
         };
-        let mut layout = Layout {
-            plan,
+        let layout = Layout {
             cells: [unplaced; 64],
+            width: 1,
             height: 0,
         };
-        layout.spread();
-        layout.draw_near();
-        layout.place_all();
-        layout
+        let mut placing = Placing { plan, layout };
+        placing.spread();
+        placing.draw_near();
+        placing.set_ends();
+        placing.place_all();
+        placing.layout
     }
 
     // Each section has a column, and a row once the layout is made; a number that is no section gets 0, since what draws it has no other place for it.
@@ -94,24 +105,27 @@ impl<'a> Layout<'a> {
 
     // The column where a section ends: where the first one beyond begins, or the next one.
     pub fn end(&self, x: u16) -> u8 {
-        let least = self.column(x).saturating_add(1);
-        self.first_beyond(x).unwrap_or(least).max(least)
-    }
-
-    fn first_beyond(&self, x: u16) -> Option<u8> {
-        beyond(self.plan, true, x)
-            .into_iter()
-            .flatten()
-            .map(|y| self.column(y))
-            .min()
+        self.cells.get(usize::from(x)).map_or(1, |cell| cell.end)
     }
 
     // The column where the last section ends.
     pub fn width(&self) -> u8 {
-        (0..self.plan.sections())
-            .map(|x| self.end(x))
-            .max()
-            .unwrap_or(1)
+        self.width
+    }
+
+    // The row of a section that has one already; in a ring the one below may have none yet.
+    fn placed(&self, x: u16) -> Option<u8> {
+        self.cells.get(usize::from(x))?.row
+    }
+}
+
+impl Placing<'_> {
+    fn first_beyond(&self, x: u16) -> Option<u8> {
+        beyond(self.plan, true, x)
+            .into_iter()
+            .flatten()
+            .map(|y| self.layout.column(y))
+            .min()
     }
 
     // A section stands to the right of each below it; in a ring this stops at the number of sections.
@@ -126,14 +140,14 @@ impl<'a> Layout<'a> {
     }
 
     fn push(&mut self, x: u16, y: u16) {
-        let next = self.column(x).saturating_add(1);
-        if self.column(y) < next && u16::from(next) < self.plan.sections() {
+        let next = self.layout.column(x).saturating_add(1);
+        if self.layout.column(y) < next && u16::from(next) < self.plan.sections() {
             self.set_column(y, next);
         }
     }
 
     fn set_column(&mut self, x: u16, column: u8) {
-        if let Some(cell) = self.cells.get_mut(usize::from(x)) {
+        if let Some(cell) = self.layout.cells.get_mut(usize::from(x)) {
             cell.column = column;
         }
     }
@@ -149,10 +163,22 @@ impl<'a> Layout<'a> {
         }
     }
 
+    // Once the columns stand.
+    fn set_ends(&mut self) {
+        for x in 0..self.plan.sections() {
+            let least = self.layout.column(x).saturating_add(1);
+            let end = self.first_beyond(x).unwrap_or(least).max(least);
+            if let Some(cell) = self.layout.cells.get_mut(usize::from(x)) {
+                cell.end = end;
+            }
+            self.layout.width = self.layout.width.max(end);
+        }
+    }
+
     fn place_all(&mut self) {
         for column in 0..64 {
             for x in 0..self.plan.sections() {
-                if self.column(x) == column {
+                if self.layout.column(x) == column {
                     self.place(x);
                 }
             }
@@ -161,11 +187,11 @@ impl<'a> Layout<'a> {
 
     // A section goes on in its line's row; where a line begins it gets a row beside the one that it leaves, or a new one.
     fn place(&mut self, x: u16) {
-        let row = match next_in_line(self.plan, false, x).and_then(|y| self.placed(y)) {
+        let row = match next_in_line(self.plan, false, x).and_then(|y| self.layout.placed(y)) {
             Some(row) => row,
             None => self.new_row(x),
         };
-        if let Some(cell) = self.cells.get_mut(usize::from(x)) {
+        if let Some(cell) = self.layout.cells.get_mut(usize::from(x)) {
             cell.row = Some(row);
         }
     }
@@ -173,10 +199,10 @@ impl<'a> Layout<'a> {
     // What leaves to the left goes above, seen on the way up, and what leaves to the right below.
     fn new_row(&mut self, x: u16) -> u8 {
         let Some(y) = main_beyond(self.plan, false, x) else {
-            return self.insert(self.height);
+            return self.insert(self.layout.height);
         };
-        let Some(row) = self.placed(y) else {
-            return self.insert(self.height);
+        let Some(row) = self.layout.placed(y) else {
+            return self.insert(self.layout.height);
         };
         let [left, _] = beyond(self.plan, true, y);
         let above = left == Some(x);
@@ -194,32 +220,27 @@ impl<'a> Layout<'a> {
 
     // Is there such a row, and is it empty where the line goes that begins here?
     fn has_room(&self, row: u8, x: u16) -> bool {
-        let to = self.column(line_end(self.plan, x));
-        row < self.height && self.is_free(row, self.column(x), to)
+        let to = self.layout.column(line_end(self.plan, x));
+        row < self.layout.height && self.is_free(row, self.layout.column(x), to)
     }
 
     // Is a row empty between two columns?
     fn is_free(&self, row: u8, from: u8, to: u8) -> bool {
         (0..self.plan.sections()).all(|x| {
-            self.placed(x) != Some(row)
-                || self.end(x) < from
-                || self.column(x) > to.saturating_add(1)
+            self.layout.placed(x) != Some(row)
+                || self.layout.end(x) < from
+                || self.layout.column(x) > to.saturating_add(1)
         })
-    }
-
-    // The row of a section that has one already; in a ring the one below may have none yet.
-    fn placed(&self, x: u16) -> Option<u8> {
-        self.cells.get(usize::from(x))?.row
     }
 
     // A new row; those from there on move down.
     fn insert(&mut self, row: u8) -> u8 {
-        for cell in &mut self.cells {
+        for cell in &mut self.layout.cells {
             if let Some(old) = cell.row.filter(|old| *old >= row) {
                 cell.row = Some(old.saturating_add(1));
             }
         }
-        self.height = self.height.saturating_add(1);
+        self.layout.height = self.layout.height.saturating_add(1);
         row
     }
 }

@@ -15,9 +15,9 @@ fn replay_watched<'a>(
     plan: Plan<'a>,
     journal: &Journal,
 ) -> anyhow::Result<(Station<'a>, bool)> {
-    let mut replay = Replay::new(show.rt.alloc(), plan, journal)?;
+    let mut replay = Replay::new(show.rt.alloc(), plan, journal.lies)?;
     for _ in 0..show.options.budget.min(journal.entries.len()) {
-        let Ok(Some(entry)) = replay.next() else {
+        let Ok(Some(entry)) = replay.next(journal) else {
             return Err(anyhow!("no memory is left"));
         };
         show.print_answer(entry.event, entry.done)?;

@@ -71,19 +71,18 @@ start p t es at w e h =
     let P : ℕ → Type 0 = λ n. Replayed p t es n w in
     subst P (sym e) (played_from p t (events_of es) [] w w h (played_start p t (events_of es) [] w refl h))
 
--- what stands of a replay's own plan and entries stands of those that it was given
-pub one_more : (p q : Plan) (t : Positions) (es fs : List Entry) (k : ℕ) (old : World) (at : ℕ) (new : World) {A : Type 0} (r : Result A Wrong) → q ≡ p → fs ≡ es →
-    (Replayed q t fs k old → Replayed q t fs at new × RefusedRightly q t fs r) → Replayed p t es k old → Replayed p t es at new × RefusedRightly p t es r
-one_more p q t es fs k old at new {A} r e f s h =
+-- what stands of a replay's own plan stands of the one that it was given
+pub one_more : (p q : Plan) (t : Positions) (es : List Entry) (k : ℕ) (old : World) (at : ℕ) (new : World) {A : Type 0} (r : Result A Wrong) → q ≡ p →
+    (Replayed q t es k old → Replayed q t es at new × RefusedRightly q t es r) → Replayed p t es k old → Replayed p t es at new × RefusedRightly p t es r
+one_more p q t es k old at new {A} r e s h =
     let P : Plan → Type 0 = λ x. Replayed x t es k old → Replayed x t es at new × RefusedRightly x t es r in
-    let Q : List Entry → Type 0 = λ z. Replayed q t z k old → Replayed q t z at new × RefusedRightly q t z r in
-    subst P e (subst Q f s) h
+    subst P e s h
 
-pub wrong_within : (p q : Plan) (t : Positions) (es fs : List Entry) (k upto : ℕ) (old : World) (at : ℕ) (new : World) (w : Wrong) → q ≡ p → fs ≡ es → k < upto → Nexts q fs k old at new (Err w) →
-    Stands q t fs k old at new (Err w) → Replayed p t es k old → Replays p t es upto (Err w)
-wrong_within p q t es fs k upto old at new Memory e f l n s h = tt
-wrong_within p q t es fs k upto old at new (EntryWrong j) e f l n s h =
-    let o = n.place_is in (omega arith, (one_more p q t es fs k old at new {A = Option Entry} (Err (EntryWrong j)) e f s h).1)
+pub wrong_within : (p q : Plan) (t : Positions) (es : List Entry) (k upto : ℕ) (old : World) (at : ℕ) (new : World) (w : Wrong) → q ≡ p → k < upto → Nexts q es k old at new (Err w) →
+    Stands q t es k old at new (Err w) → Replayed p t es k old → Replays p t es upto (Err w)
+wrong_within p q t es k upto old at new Memory e l n s h = tt
+wrong_within p q t es k upto old at new (EntryWrong j) e l n s h =
+    let o = n.place_is in (omega arith, (one_more p q t es k old at new {A = Option Entry} (Err (EntryWrong j)) e s h).1)
 
 pub handed_on : (p : Plan) (t : Positions) (es : List Entry) (upto : ℕ) (r : Result Station Wrong) (w : Wrong) → Replays p t es upto (Err w) → IsErrAnd r (λ y. y ≡ w) → Replays p t es upto r
 handed_on p t es upto (Ok s) w k h = absurd h

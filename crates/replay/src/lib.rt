@@ -43,9 +43,9 @@ pub fn replay<'a>(
 ) -> Result<Station<'a>, Wrong>
     ensures { Replays (plan_of plan.entry) (marks journal.now.lies) journal.now.entries.items upto result }
 {
-    let mut replay = Replay::new(heap, plan, journal)?;
+    let mut replay = Replay::new(heap, plan, journal.lies)?;
     for _ in 0..upto.min(journal.entries.len()) {
-        replay.next()?;
+        replay.next(journal)?;
     }
     Ok(replay.station)
 }

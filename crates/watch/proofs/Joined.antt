@@ -1,6 +1,5 @@
 -- What was looked at in parts is what is promised of the world.
 use Rattle.std.proofs.Common.{◌≡◌, ℕ, ◌+◌, ◌<◌, ◌≤◌, true, List, ◌∷◌, length, Some, None, Option, subst, sym, ap, ◌∙◌, MatchOption, arith}
-use Rattle.std.specs.Option.{option_or}
 use Rattle.plan.specs.Plan.{Plan, Positions, Once}
 use Rattle.interlocking.specs.State.{State, Occupancy, is_open}
 use Rattle.occupancy.specs.Notes.{notes}
@@ -13,12 +12,6 @@ use Rattle.watch.specs.Scene.{BrokenIn, Looked, Shows, body_in, lies_in, occupie
 use Rattle.watch.specs.declared.Broken.{Broken}
 use Rattle.watch.specs.declared.scene.Scene.{Scene}
 use Rattle.watch.proofs.Lists.{both_ways}
-
--- of some looks the first that found something, or none of them did
-first : (V : Broken → Type 0) (A B : Type 0) (o q r : Option Broken) → r ≡ option_or o q → MatchOption o A V → MatchOption q B V → MatchOption r (A × B) V
-first V A B None None r e a b = rw e (a, b)
-first V A B None (Some y) r e a b = rw e b
-first V A B (Some x) q r e a b = rw e a
 
 such : (V : Broken → Type 0) (A B : Type 0) (o : Option Broken) → (A → B) → MatchOption o A V → MatchOption o B V
 such V A B None f a = f a
@@ -40,21 +33,17 @@ module _ (s : Scene) where
   abbrev WayIn : Type 0
   WayIn = (i : ℕ) → i < 16 → (x : ℕ) → (xs : List ℕ) → body_in s i ≡ x ∷ xs → WayAt (plan_in s) (lies_in s) (occupied_in s) (up_in s i) x
 
-  pub placed : (a b c d e ab abc abcd r : Option Broken) → ab ≡ option_or a b → abc ≡ option_or ab c → abcd ≡ option_or abc d → r ≡ option_or abcd e →
-      Looked s a ApartIn → Looked s b StandsIn → Looked s c StillIn → Looked s d ShownIn → Looked s e WayIn →
-      Looked s r (Placed (plan_in s) (state_in s) (lies_in s) (occupied_in s) (trains_in s))
-  placed a b c d e ab abc abcd r f g h k ta tb tc td te =
-      let V = BrokenIn s in
-      let all = first V _ WayIn abcd e r k (first V _ ShownIn abc d abcd h (first V _ StillIn ab c abc g (first V ApartIn StandsIn a b ab f ta tb) tc) td) te in
-      such V ((((ApartIn × StandsIn) × StillIn) × ShownIn) × WayIn) _ r
-      (λ t. record {
-        apart = both_ways 16 (body_in s) (λ i j l m. t.0.0.0.0 i (omega arith) j (omega arith) m);
-        standing = t.0.0.0.1;
-        still = t.0.0.1;
-        shown = t.0.1;
-        way = t.1;
+  -- the last of the looks, where those before it found nothing
+  pub placed : (r : Option Broken) → ApartIn → StandsIn → StillIn → ShownIn → Looked s r WayIn → Looked s r (Placed (plan_in s) (state_in s) (lies_in s) (occupied_in s) (trains_in s))
+  placed r a b c d =
+      such (BrokenIn s) WayIn _ r
+      (λ e. record {
+        apart = both_ways 16 (body_in s) (λ i j l m. a i (omega arith) j (omega arith) m);
+        standing = b;
+        still = c;
+        shown = d;
+        way = e;
       })
-      all
 
   abbrev OrphanIn : Type 0
   OrphanIn = (x : ℕ) → x < 64 → NoOrphanAt (state_in s) x
@@ -77,23 +66,8 @@ module _ (s : Scene) where
   abbrev LetsGoIn : Type 0
   LetsGoIn = (r : ℕ) → r < 64 → LetsGoAt (plan_in s) (state_in s) (lies_in s) (occupied_in s) r
 
-  pub held : (a b c d e f g r1 r2 r3 r4 r5 r : Option Broken) → r1 ≡ option_or a b → r2 ≡ option_or r1 c → r3 ≡ option_or r2 d → r4 ≡ option_or r3 e → r5 ≡ option_or r4 f → r ≡ option_or r5 g →
-      Looked s a OrphanIn → Looked s b OnceIn → Looked s c FallsIn → Looked s d EnteredIn → Looked s e PassedIn → Looked s f WantedIn → Looked s g LetsGoIn →
-      Looked s r (Held (plan_in s) (state_in s) (lies_in s) (occupied_in s) (trains_in s))
-  held a b c d e f g r1 r2 r3 r4 r5 r e1 e2 e3 e4 e5 e6 ta tb tc td te tf tg =
-      let V = BrokenIn s in
-      let all = first V _ LetsGoIn r5 g r e6 (first V _ WantedIn r4 f r5 e5 (first V _ PassedIn r3 e r4 e4 (first V _ EnteredIn r2 d r3 e3 (first V _ FallsIn r1 c r2 e2 (first V OrphanIn OnceIn a b r1 e1 ta tb) tc) td) te) tf) tg in
-      such V ((((((OrphanIn × OnceIn) × FallsIn) × EnteredIn) × PassedIn) × WantedIn) × LetsGoIn) _ r
-      (λ t. record {
-        orphan = t.0.0.0.0.0.0;
-        once = t.0.0.0.0.0.1;
-        falls = t.0.0.0.0.1;
-        entered = t.0.0.0.1;
-        passed = t.0.0.1;
-        wanted = t.0.1;
-        lets_go = t.1;
-      })
-      all
+  pub held : (r : Option Broken) → OrphanIn → OnceIn → FallsIn → EnteredIn → PassedIn → WantedIn → Looked s r LetsGoIn → Looked s r (Held (plan_in s) (state_in s) (lies_in s) (occupied_in s) (trains_in s))
+  held r a b c d e f = such (BrokenIn s) LetsGoIn _ r (λ g. record { orphan = a; once = b; falls = c; entered = d; passed = e; wanted = f; lets_go = g })
 
 abbrev world : State → Positions → (ℕ → Train) → World
 world h t ts = record { interlocking = h; lies = t; trains = ts }
@@ -120,9 +94,20 @@ told_of p h t s ts r w e f g k m =
     (subst (λ (z : State). MatchOption r (Fine p (world z t ts)) (Violated p (world z t ts))) f told))
 
 -- what a scene says of the station that it shows
-pub told : (s : Scene) (t : Station) (a b r : Option Broken) → Shows s t → r ≡ option_or a b →
-    Looked s a (Placed (plan_in s) (state_in s) (lies_in s) (occupied_in s) (trains_in s)) → Looked s b (Held (plan_in s) (state_in s) (lies_in s) (occupied_in s) (trains_in s)) →
-    MatchOption r (Fine (station_plan t) (station_world t)) (Violated (station_plan t) (station_world t))
-told s t a b r h e x y =
-    subst (λ (p : Plan). MatchOption r (Fine p (station_world t)) (Violated p (station_world t))) h.plan
-    (told_of (plan_in s) (state_in s) (lies_in s) (occupied_in s) (trains_in s) r (station_world t) (h.occupied ∙ ap (occupied 16) (sym h.trains)) h.state h.lies h.trains (first (BrokenIn s) _ _ a b r e x y))
+module _ (s : Scene) (t : Station) (h : Shows s t) where
+  abbrev PlacedIn : Type 0
+  PlacedIn = Placed (plan_in s) (state_in s) (lies_in s) (occupied_in s) (trains_in s)
+
+  abbrev HeldIn : Type 0
+  HeldIn = Held (plan_in s) (state_in s) (lies_in s) (occupied_in s) (trains_in s)
+
+  seen : (r : Option Broken) → Looked s r (PlacedIn × HeldIn) → MatchOption r (Fine (station_plan t) (station_world t)) (Violated (station_plan t) (station_world t))
+  seen r x =
+      subst (λ (p : Plan). MatchOption r (Fine p (station_world t)) (Violated p (station_world t))) h.plan
+      (told_of (plan_in s) (state_in s) (lies_in s) (occupied_in s) (trains_in s) r (station_world t) (h.occupied ∙ ap (occupied 16) (sym h.trains)) h.state h.lies h.trains x)
+
+  pub broken : (b : Broken) → BrokenIn s b → Violated (station_plan t) (station_world t) b
+  broken b x = seen (Some b) x
+
+  pub told : (r : Option Broken) → PlacedIn → Looked s r HeldIn → MatchOption r (Fine (station_plan t) (station_world t)) (Violated (station_plan t) (station_world t))
+  told r x y = seen r (such (BrokenIn s) HeldIn (PlacedIn × HeldIn) r (λ z. (x, z)) y)

@@ -26,15 +26,14 @@ fn doubled(body: &[u16]) -> Option<u16>
 }
 
 impl Scene<'_> {
-    // Two trains that share a section.
-    fn together(&self, i: usize, j: usize) -> Option<Broken>
+    // A train, by its sections, that shares one with another.
+    fn together(&self, i: usize, body: &[u16], j: usize) -> Option<Broken>
         requires first { i < j }
         requires second { j < 16 }
+        requires body { body.now ≡ body_in self.now i }
         ensures { Looked self.now result (ApartLists (body_in self.now i) (body_in self.now j)) }
     {
-        shared(self.station.sections_of(i), self.station.sections_of(j)).map(|x| Broken::Together(
-            x, i, j,
-        ))
+        shared(body, self.station.sections_of(j)).map(|x| Broken::Together(x, i, j))
     }
 
     // A train that shares a section with a later one.
@@ -42,7 +41,8 @@ impl Scene<'_> {
         requires { i < 16 }
         ensures { Looked self.now result ((j : ℕ) → i + 1 ≤ j → j < 16 → ApartLists (body_in self.now i) (body_in self.now j)) }
     {
-        (i + 1..16).find_map(|j| self.together(i, j))
+        let body = self.station.sections_of(i);
+        (i + 1..16).find_map(|j| self.together(i, body, j))
     }
 
     // No section has two trains.

@@ -50,28 +50,48 @@ pub enum Broken {
 
 impl Scene<'_> {
     // Where trains stand, and what may be entered.
-    // `or` looks at all of them, as is done anyway where nothing is broken; with `or_else` the proof did not close.
+    // Early returns here and below, so that nothing is looked at behind what is broken: of a closure for `or_else` the check knows nothing.
     fn misplaced(&self) -> Option<Broken>
         ensures { Looked self.now result (Placed (plan_in self.now) (state_in self.now) (lies_in self.now) (occupied_in self.now) (trains_in self.now)) }
     {
-        self.apart()
-            .or(self.standing())
-            .or(self.still())
-            .or(self.shown())
-            .or(self.way_before())
+        if let Some(broken) = self.apart() {
+            return Some(broken);
+        }
+        if let Some(broken) = self.standing() {
+            return Some(broken);
+        }
+        if let Some(broken) = self.still() {
+            return Some(broken);
+        }
+        if let Some(broken) = self.shown() {
+            return Some(broken);
+        }
+        self.way_before()
     }
 
     // What is locked, passed, wanted and left.
     fn misheld(&self) -> Option<Broken>
         ensures { Looked self.now result (Held (plan_in self.now) (state_in self.now) (lies_in self.now) (occupied_in self.now) (trains_in self.now)) }
     {
-        self.no_orphan()
-            .or(self.each_once())
-            .or(self.falls_soon())
-            .or(self.entered())
-            .or(self.passed())
-            .or(self.wanted())
-            .or(self.lets_go())
+        if let Some(broken) = self.no_orphan() {
+            return Some(broken);
+        }
+        if let Some(broken) = self.each_once() {
+            return Some(broken);
+        }
+        if let Some(broken) = self.falls_soon() {
+            return Some(broken);
+        }
+        if let Some(broken) = self.entered() {
+            return Some(broken);
+        }
+        if let Some(broken) = self.passed() {
+            return Some(broken);
+        }
+        if let Some(broken) = self.wanted() {
+            return Some(broken);
+        }
+        self.lets_go()
     }
 }
 
@@ -80,7 +100,10 @@ pub fn first_broken(station: &Station<'_>) -> Option<Broken>
     ensures { MatchOption result (Fine (station_plan station.now) (station_world station.now)) (λ b. Violated (station_plan station.now) (station_world station.now) b) }
 {
     let scene = Scene::new(station);
-    scene.misplaced().or(scene.misheld())
+    if let Some(broken) = scene.misplaced() {
+        return Some(broken);
+    }
+    scene.misheld()
 }
 
 // One sentence for people.

@@ -8,7 +8,6 @@ use Rattle.replay.proofs.replay.Given as goal
 abbrev pub invariant-loop : goal.invariant-loop
 invariant-loop l = record {
   plan : station_plan l.replay.station ≡ plan_of l.plan;
-  entries : l.replay.entries.now ≡ vec_items l.journal.entries;
   at : l.replay.at ≡ l.counter;
   run : Replayed (plan_of l.plan) (marks l.journal.lies) (vec_items l.journal.entries) l.replay.at (station_world l.replay.station);
 }
