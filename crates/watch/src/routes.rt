@@ -1,6 +1,7 @@
 // What is promised of routes, locks and marks.
 ghost use Rattle.std.specs.Prelude.{◌≡◌, ℕ, ◌<◌, true, false, length, MatchOption, ◌≢◌};
-ghost use Rattle.interlocking.specs.State.{is_open};
+ghost use Rattle.interlocking.specs.State.{does, is_open};
+ghost use Rattle.interlocking.specs.declared.Request.TheVariants.{Back};
 ghost use Rattle.occupancy.specs.Notes.{notes};
 ghost use Rattle.plan.specs.Plan.{among, met};
 ghost use Rattle.plan.specs.View.{route_of};
@@ -163,6 +164,19 @@ impl Scene<'_> {
         (0..64).find_map(|r| self.unwanted(r))
     }
 
+    // Can a route be taken back? Not in `kept`, which is asked of each route: what this needs room for is laid out only where one is used.
+    fn goes_back(&self, r: usize) -> bool
+        ensures { result ≡ does (plan_in self.now) (state_in self.now) (occupied_in self.now) (lies_in self.now) (Back r) }
+    {
+        let sight = Sight {
+            plan: self.plan,
+            occupied: &self.occupied,
+            lies: &self.lies,
+        };
+        let (_, answer) = self.interlocking.back(sight, r);
+        answer.done
+    }
+
     // A used route with no train in its path that can't be taken back.
     fn kept(&self, r: usize) -> Option<Broken>
         ensures { Looked self.now result (LetsGoAt (plan_in self.now) (state_in self.now) (lies_in self.now) (occupied_in self.now) r) }
@@ -173,13 +187,7 @@ impl Scene<'_> {
         if self.occupied_in(self.plan.route(r).path()).is_some() {
             return None;
         }
-        let sight = Sight {
-            plan: self.plan,
-            occupied: &self.occupied,
-            lies: &self.lies,
-        };
-        let (_, answer) = self.interlocking.back(sight, r);
-        (!answer.done).then_some(Broken::Kept(r))
+        (!self.goes_back(r)).then_some(Broken::Kept(r))
     }
 
     // A used route with no train in its path can be taken back.
