@@ -3,6 +3,7 @@ pub mod Made
 pub mod States
 pub mod Fits
 pub mod Said
+pub mod Requests
 pub mod Does
 pub mod Walked
 pub mod Asks

@@ -262,23 +262,24 @@ impl Interlocking {
         self
     }
 
-    // What is asked is done, or not, as the rules decide.
-    pub fn perform(self, sight: Sight<'_>, request: Request) -> (Self, Answer)
-        ensures { SaysAt sight.entry self request result.0 result.1 }
-    {
-        match request {
-            Request::Ask(r) => self.ask(sight, r),
-            Request::Clear(r) => self.clear(sight, r),
-            Request::Back(r) => self.back(sight, r),
-            Request::Free(x) => self.free(sight, x),
-            Request::Tick => self.tick(sight),
-        }
-    }
-
     // What is asked for by its number.
     pub fn act(self, sight: Sight<'_>, kind: u64, which: usize) -> (Self, Answer)
         ensures { SaysAt sight.entry self (request_of kind which) result.0 result.1 }
     {
-        self.perform(sight, Request::of(kind, which))
+        let kind = kind;
+        match kind {
+            0 => self.ask(sight, which),
+            1 => self.clear(sight, which),
+            2 => self.back(sight, which),
+            3 => self.free(sight, which),
+            _ => self.tick(sight),
+        }
+    }
+
+    // What is asked is done, or not, as the rules decide: by its number, since all that is asked goes through `act`.
+    pub fn perform(self, sight: Sight<'_>, request: Request) -> (Self, Answer)
+        ensures { SaysAt sight.entry self request result.0 result.1 }
+    {
+        self.act(sight, request.kind(), request.which())
     }
 }

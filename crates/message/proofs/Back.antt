@@ -4,6 +4,7 @@ use Rattle.interlocking.specs.Says.{kind_of, request_of, which_of}
 use Rattle.interlocking.specs.declared.Request.{Request}
 use Rattle.interlocking.specs.declared.Request.TheVariants.{Ask, Clear, Back, Free, Tick}
 use Rattle.interlocking.specs.declared.Answer.{Answer}
+use Rattle.interlocking.proofs.Requests.{number_of_request}
 use Rattle.model.specs.declared.Event.{Event}
 use Rattle.model.specs.declared.Event.TheVariants.{Asked, Turns, Goes, Draws, Reverses, Comes, Leaves}
 use Rattle.message.specs.Numbers.{bit, can_be, event_in, first_of, kind_in, last_at, message_in, message_numbers, second_of}
@@ -11,13 +12,6 @@ use Rattle.message.specs.declared.Message.{Message}
 use Rattle.message.specs.declared.Message.TheVariants.{Request as RequestTold, Answer as AnswerTold, Event as EventTold}
 
 -- from a message and back
-
-request_back : (a : Request) → request_of (kind_of a) (which_of a) ≡ a
-request_back (Ask r) = refl
-request_back (Clear r) = refl
-request_back (Back r) = refl
-request_back (Free x) = refl
-request_back Tick = refl
 
 asked_back : (a : Request) → event_in (kind_of a) (which_of a) 0 ≡ Asked a
 asked_back (Ask r) = refl
@@ -48,9 +42,9 @@ abbrev of : List ℕ → Message
 of ns = message_in (get_or ns 0 0) (get_or ns 1 0) (get_or ns 2 0) (get_or ns 3 0) (get_or ns 4 0)
 
 back : (m : Message) → of (message_numbers m) ≡ m
-back (RequestTold a) = ap RequestTold (request_back a)
+back (RequestTold a) = ap RequestTold (number_of_request a)
 back (AnswerTold a) =
-    ap (λ (z : Request). AnswerTold (answer_of z (eqb (bit a.done) 1))) (request_back a.request) ∙ ap (λ (z : Bool). AnswerTold (answer_of a.request z)) (bit_back a.done)
+    ap (λ (z : Request). AnswerTold (answer_of z (eqb (bit a.done) 1))) (number_of_request a.request) ∙ ap (λ (z : Bool). AnswerTold (answer_of a.request z)) (bit_back a.done)
 back (EventTold e b) = let p = event_back e in let q = bit_back b in cc
 
 pub apart : (m n : Message) → message_numbers m ≡ message_numbers n → m ≡ n

@@ -1,6 +1,6 @@
 // What can happen in a world.
 ghost use Rattle.std.specs.Prelude.{◌≡◌, vec_len};
-ghost use Rattle.model.specs.declared.Event.TheVariants.{Comes};
+ghost use Rattle.model.specs.declared.Event.TheVariants.{Comes, Draws, Reverses};
 ghost use Rattle.model.specs.Held.{occupied_in, world_of};
 ghost use Rattle.trains.specs.Held.{within};
 ghost use Rattle.model.specs.World.{can};
@@ -32,6 +32,21 @@ impl World {
         may_enter(plan, &self.interlocking, &occupied, up, x as u16)
     }
 
+    fn can_draw(&self, plan: Plan<'_>, i: usize) -> bool
+        ensures { result ≡ can (plan_of plan.entry) (vec_len self.now.trains) (world_of self.now) (Draws i) }
+    {
+        self.trains.get(i).is_some_and(|train| !train.is_short())
+    }
+
+    fn can_reverse(&self, plan: Plan<'_>, i: usize) -> bool
+        ensures { result ≡ can (plan_of plan.entry) (vec_len self.now.trains) (world_of self.now) (Reverses i) }
+    {
+        match self.trains.get(i) {
+            Some(train) => train.may_reverse(plan),
+            None => false,
+        }
+    }
+
     // Can it happen, trains keeping to signals?
     pub fn can(&self, plan: Plan<'_>, event: Event) -> bool
         ensures { result ≡ can (plan_of plan.entry) (vec_len self.now.trains) (world_of self.now) event }
@@ -44,11 +59,8 @@ impl World {
                 Some(train) => train.may_go(plan, &self.interlocking, &self.lies),
                 None => false,
             },
-            Event::Draws(i) => self.trains.get(i).is_some_and(|train| !train.is_short()),
-            Event::Reverses(i) => match self.trains.get(i) {
-                Some(train) => train.may_reverse(plan),
-                None => false,
-            },
+            Event::Draws(i) => self.can_draw(plan, i),
+            Event::Reverses(i) => self.can_reverse(plan, i),
             Event::Comes(i, up, x) => self.can_come(plan, i, up, x),
             Event::Leaves(i) => match self.trains.get(i) {
                 Some(train) => train.may_leave(plan, &self.lies),

@@ -6,7 +6,7 @@ use Rattle.interlocking.specs.declared.Stage.TheVariants.{Used, Falling}
 use Rattle.interlocking.specs.State.{is_idle, State, Occupancy}
 use Rattle.occupancy.specs.Notes.{entering, notes}
 use Rattle.model.specs.World.{Train, occupied}
-use Rattle.safety.specs.Safe.{is_waiting, is_cleared, OnRoute, Kept, Run, Books, Unmarked}
+use Rattle.safety.specs.Safe.{is_waiting, is_cleared, OnRoute, Kept, Run, Books, Unmarked, Sure}
 use Rattle.safety.proofs.Carry.{route_moves, run_moves}
 
 -- the stage that is noted: idle, waiting, cleared or falling only if it was
@@ -42,6 +42,9 @@ notes_on p h s o t up x r k q = route_moves p h (notes p h o) s s t up x r k q (
 
 pub notes_run : (p : Plan) (n : ℕ) (h : State) (o : Occupancy) (t : Positions) (ts : ℕ → Train) → Run p n h t ts → Run p n (notes p h o) t ts
 notes_run p n h o t ts run = run_moves p n h (notes p h o) t ts run (λ up x r k c q. notes_on p h (occupied n ts) o t up x r k q)
+
+pub notes_sure : (p : Plan) (n : ℕ) (h : State) (o : Occupancy) (t : Positions) (ts : ℕ → Train) → Sure p n h t ts → Sure p n (notes p h o) t ts
+notes_sure p n h o t ts k = (notes_kept p h (occupied n ts) o t k.0, notes_run p n h o t ts k.1)
 
 -- whatever was reported before (b)
 pub notes_books : (p : Plan) (h : State) (b o : Occupancy) → Books p h b → Books p (notes p h o) o

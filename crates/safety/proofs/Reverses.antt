@@ -6,7 +6,7 @@ use Rattle.interlocking.specs.State.{State}
 use Rattle.model.specs.World.{next, Train, World, occupied, reversed, with_train, can, state_after, lies_after, trains_after}
 use Rattle.model.specs.declared.Event.TheVariants.{Reverses}
 use Rattle.safety.specs.Promise.{Hangs}
-use Rattle.safety.specs.Safe.{Ahead, at_signal, Run, Safe}
+use Rattle.safety.specs.Safe.{Ahead, at_signal, Run, Sure, Safe}
 use Rattle.safety.proofs.Lists.{among_round, once_round, front_round, front_of}
 use Rattle.safety.proofs.Occupied.{each_train, occupied_same}
 use Rattle.safety.proofs.Ways.{hangs_round}
@@ -34,6 +34,10 @@ module _ (p : Plan) (n : ℕ) (ts : ℕ → Train) (i : ℕ) where
         (λ less e. at_signal (let f = front_round 0 (ts i).body in let g = front_of (reversed (ts i).body) x xs e in grind arith))
         (λ k ne less e. rw same (run.ahead k x xs less e)) j;
   }
+
+pub reverses_sure : (p : Plan) (n : ℕ) (h : State) (t : Positions) (ts : ℕ → Train) (i : ℕ) → p.signal (not (ts i).up) (last_of 0 (ts i).body) ≡ true → Sure p n h t ts →
+    Sure p n h t (with_train ts i (not (ts i).up) (reversed (ts i).body))
+reverses_sure p n h t ts i sign k = (rw (same p n ts i) k.0, reverses_run p n ts i h t sign k.1)
 
 pub reverses_keeps : (p : Plan) (n : ℕ) (w : World) (i : ℕ) → Safe p n w → can p n w (Reverses i) ≡ true → Safe p n (next p n w (Reverses i))
 unfolding state_after lies_after trains_after can

@@ -1,8 +1,9 @@
 -- Lemmas on the stages of a route and on its locks.
-use Rattle.std.proofs.Common.{◌≡◌, ℕ, suc, Bool, true, false, arith}
+use Rattle.std.proofs.Common.{◌≡◌, ℕ, suc, Bool, true, false, List, arith}
+use Rattle.plan.specs.Plan.{among}
 use Rattle.interlocking.specs.declared.Stage.{Stage}
 use Rattle.interlocking.specs.declared.Stage.TheVariants.{Idle, Set, Used}
-use Rattle.interlocking.specs.State.{is_idle, is_set, is_used, is_open, State, with_stage, unlocked}
+use Rattle.interlocking.specs.State.{is_idle, is_set, is_used, is_open, State, with_stage, locked, unlocked}
 use Rattle.safety.specs.Safe.{is_waiting, is_cleared}
 
 -- what one test of a stage says of another
@@ -31,7 +32,10 @@ used_only g e = grind arith
 pub stage_else : (f : ℕ → Stage) (r : ℕ) (g : Stage) (k : ℕ) → (k ≡ r → ⊥) → with_stage f r g k ≡ f k
 stage_else f r g k e = grind arith
 
--- a section that isn't locked for a route stays as it is
+-- sections locked for a route, and all of its sections unlocked
+pub locked_out : (h : State) (r : ℕ) (xs : List ℕ) (x : ℕ) → among x xs ≡ false → locked h r xs x ≡ h.lock x
+locked_out h r xs x e = grind arith
+
 pub unlocked_else : (h : State) (r x : ℕ) → (h.lock x ≡ suc r → ⊥) → unlocked h r x ≡ h.lock x
 unlocked_else h r x e = grind arith
 

@@ -5,7 +5,7 @@ use Rattle.soundness.specs.Sound.{Fit, Sound}
 use Rattle.interlocking.specs.State.{State, Occupancy}
 use Rattle.model.specs.World.{next, Train, World, occupied, state_after, lies_after, trains_after}
 use Rattle.model.specs.declared.Event.TheVariants.{Turns}
-use Rattle.safety.specs.Safe.{is_cleared, Ahead, at_signal, at_end, on_route, Kept, Run, Safe}
+use Rattle.safety.specs.Safe.{is_cleared, Ahead, at_signal, at_end, on_route, Kept, Run, Sure, Safe}
 use Rattle.safety.proofs.Tests.{clash, decide, either_way}
 use Rattle.safety.proofs.Lists.{among_at}
 use Rattle.safety.proofs.Occupied.{occupied_at}
@@ -77,6 +77,9 @@ loose_run p n h t t' ts snd only run = record {
       (λ x a. occupied_same p h (occupied n ts) t t' snd only x (run.inside i x l a) (occupied_at n ts x i l a)) (run.hangs i l);
   ahead = λ i x xs l e. loose_ahead p h (occupied n ts) t t' snd only (ts i).up x (run.ahead i x xs l e);
 }
+
+pub loose_sure : (p : Plan) (n : ℕ) (h : State) (t t' : Positions) (ts : ℕ → Train) → Sound p → OnlyUnbound p h (occupied n ts) t t' → Sure p n h t ts → Sure p n h t' ts
+loose_sure p n h t t' ts snd only k = (loose_kept p h (occupied n ts) t t' snd only k.0, loose_run p n h t t' ts snd only k.1)
 
 -- and so, in a whole world, may one point
 pub loose : (p : Plan) (n : ℕ) (w : World) (q : ℕ) (left : Bool) → Sound p → Safe p n w → Unbound p w.interlocking (occupied n w.trains) q →

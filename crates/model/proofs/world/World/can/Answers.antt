@@ -1,11 +1,11 @@
-use Rattle.std.proofs.Common.{not, vec_items, sym, ap, ◌∙◌, rules}
+use Rattle.std.proofs.Common.{vec_items, sym, ap, ◌∙◌, rules}
 use Rattle.plan.specs.Plan.{marks}
 use Rattle.plan.specs.View.{plan_of}
 use Rattle.interlocking.specs.Says.{state_of}
-use Rattle.trains.specs.Trains.{Train, empty, may_go, may_leave, may_reverse, without_last}
+use Rattle.trains.specs.Trains.{may_go, may_leave}
 use Rattle.model.specs.Held.{world_of}
 use Rattle.model.specs.World.{can}
-use Rattle.model.proofs.Cans.{some_train, train_is, train_none}
+use Rattle.model.proofs.Cans.{train_is, train_none}
 use Rattle.model.proofs.world.World.can.Goals as goal
 
 pub returns-in-Asked : goal.returns-in-Asked
@@ -15,12 +15,6 @@ returns-in-Asked c = rw c.in-Asked.is
 pub returns-in-Turns : goal.returns-in-Turns
 unfolding can
 returns-in-Turns c = rw c.in-Turns.is (search rules)
-
-pub returns-in-Draws : goal.returns-in-Draws
-unfolding can
-returns-in-Draws c =
-    some_train _ (vec_items c.args.self.now.trains) c.args.self.now.trains.len c.in-Draws.i _ _ (λ (t : Train). not (empty (without_last t.body))) c.deref-in-Draws.ensures.value c.args.self.now.trains.ok.0 c.get-in-Draws.ensures.lookup.3 c.is_some_and.ensures (λ x k. search rules)
-    ∙ ap (can (plan_of c.args.plan) c.args.self.now.trains.len (world_of c.args.self.now)) (sym c.in-Draws.is)
 
 pub returns-in-Some : goal.returns-in-Some
 unfolding can
@@ -35,19 +29,9 @@ returns-in-None c = train_none _ (vec_items c.args.self.now.trains) c.args.self.
 pub returns-in-Some-get : goal.returns-in-Some-get
 unfolding can
 returns-in-Some-get c =
-    train_is _ (vec_items c.args.self.now.trains) c.args.self.now.trains.len c.in-Reverses.i c.in-Some-get.train _ (may_reverse (plan_of c.args.plan)) c.deref-in-Reverses.ensures.value c.args.self.now.trains.ok.0 c.in-Some-get.ensures.lookup.3 c.may_reverse.ensures
-    ∙ ap (can (plan_of c.args.plan) c.args.self.now.trains.len (world_of c.args.self.now)) (sym c.in-Reverses.is)
+    train_is _ (vec_items c.args.self.now.trains) c.args.self.now.trains.len c.in-Leaves.i c.in-Some-get.train _ (may_leave (plan_of c.args.plan) (marks c.args.self.now.lies)) c.deref-in-Leaves.ensures.value c.args.self.now.trains.ok.0 c.in-Some-get.ensures.lookup.3 c.may_leave.ensures
+    ∙ ap (can (plan_of c.args.plan) c.args.self.now.trains.len (world_of c.args.self.now)) (sym c.in-Leaves.is)
 
 pub returns-in-None-get : goal.returns-in-None-get
 unfolding can
-returns-in-None-get c = train_none _ (vec_items c.args.self.now.trains) c.args.self.now.trains.len c.in-Reverses.i _ c.deref-in-Reverses.ensures.value c.args.self.now.trains.ok.0 c.in-None-get.ensures.lookup.3 ∙ ap (can (plan_of c.args.plan) c.args.self.now.trains.len (world_of c.args.self.now)) (sym c.in-Reverses.is)
-
-pub returns-in-Some-get-2 : goal.returns-in-Some-get-2
-unfolding can
-returns-in-Some-get-2 c =
-    train_is _ (vec_items c.args.self.now.trains) c.args.self.now.trains.len c.in-Leaves.i c.in-Some-get-2.train _ (may_leave (plan_of c.args.plan) (marks c.args.self.now.lies)) c.deref-in-Leaves.ensures.value c.args.self.now.trains.ok.0 c.in-Some-get-2.ensures.lookup.3 c.may_leave.ensures
-    ∙ ap (can (plan_of c.args.plan) c.args.self.now.trains.len (world_of c.args.self.now)) (sym c.in-Leaves.is)
-
-pub returns-in-None-get-2 : goal.returns-in-None-get-2
-unfolding can
-returns-in-None-get-2 c = train_none _ (vec_items c.args.self.now.trains) c.args.self.now.trains.len c.in-Leaves.i _ c.deref-in-Leaves.ensures.value c.args.self.now.trains.ok.0 c.in-None-get-2.ensures.lookup.3 ∙ ap (can (plan_of c.args.plan) c.args.self.now.trains.len (world_of c.args.self.now)) (sym c.in-Leaves.is)
+returns-in-None-get c = train_none _ (vec_items c.args.self.now.trains) c.args.self.now.trains.len c.in-Leaves.i _ c.deref-in-Leaves.ensures.value c.args.self.now.trains.ok.0 c.in-None-get.ensures.lookup.3 ∙ ap (can (plan_of c.args.plan) c.args.self.now.trains.len (world_of c.args.self.now)) (sym c.in-Leaves.is)
