@@ -2,7 +2,7 @@
 use Rattle.std.proofs.Common.{◌≡◌, ℕ, suc, ◌+◌, ◌*◌, min, ◌<◌, ◌≤◌, Bool, true, false, leb, List, [], ◌∷◌, ◌++◌, map, length, get_or, take, drop, set, Ok, Err, vec_items, Result, sym, refl, ap, ◌∙◌, subst, arith}
 use lib.Seq.{take-append-add}
 use Rattle.std.specs.List.{flat_map}
-use Rattle.std.proofs.lemmas.List.{append_assoc, append-nil, drop_at, drop-take, get_or_append_left, get_or-map, flat_map_more, length-append, length-map, length-take, map-set, take_all, take-append-drop, take-append-le, take_at, take_more, take_more_set, take-take}
+use Rattle.std.proofs.lemmas.List.{append_assoc, append-nil, drop_at, drop-take, get_or_append_left, get_or-map, flat_map_more, length-append, length-drop, length-map, length-take, map-set, take_all, take-append-drop, take-append-le, take_at, take_more, take_more_set, take-take}
 use Rattle.message.specs.Numbers.{bit}
 use Rattle.message.specs.declared.Message.TheVariants.{Event as EventTold}
 use Rattle.message.proofs.Places.{same_at}
@@ -14,7 +14,7 @@ use Rattle.journal.specs.declared.Entry.{Entry}
 use Rattle.journal.specs.declared.Journal.{Journal}
 use Rattle.journal.specs.declared.read.Refusal.{Refusal}
 use Rattle.journal.specs.declared.read.Refusal.TheVariants.{Memory, Place}
-use Rattle.journal.proofs.Entries.{within_five}
+use Rattle.journal.proofs.Entries.{within_five, within_length}
 
 -- beyond a part that two lists have of the same length
 past : {A : Type 0} (n k : ℕ) (xs ys xs₁ ys₁ : List A) → length xs ≡ n → length xs₁ ≡ n → take (n + k) (xs ++ ys) ≡ take (n + k) (xs₁ ++ ys₁) → take k ys ≡ take k ys₁
@@ -257,3 +257,9 @@ comes_back ls es (Err (Place k)) l h = h.here (ls, es, l, refl)
 
 pub read_back : ReadBack
 read_back = record { apart = journals_apart; same = comes_back }
+
+-- nor of a journal's numbers, of which an entry's are the next five
+pub place_there : (ns : List ℕ) (at : ℕ) (few : List ℕ) → few ≡ take 5 (drop at ns) → (place : ℕ) → at < length ns → FirstWrongEntry few place → at + place ≤ length ns
+place_there ns at few f place l w =
+    let a = ap length f in let b = length-take 5 (drop at ns) in let c = length-drop at ns in
+    let o = within_length few place (omega arith) w in omega arith

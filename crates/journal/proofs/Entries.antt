@@ -55,6 +55,13 @@ within_five ns place l w = go (ltb place 5) refl
     go true q = ltb-true place 5 q
     go false q = absurd (w.here (w.before.0, same w.before.0 (ltb-false place 5 q) w.before.1))
 
+-- no place past the end of the numbers is called wrong
+pub within_length : (ns : List ℕ) (place : ℕ) → length ns ≤ 5 → FirstWrongEntry ns place → place ≤ length ns
+within_length ns place l w =
+    let o = within_five ns place l w in
+    let a = ap length w.before.1 in let b = length-take place ns in let x = length-take place (entry_numbers w.before.0) in
+    let f = five w.before.0 in omega arith
+
 -- what is no event is wrong at once
 pub not_event : (ns : List ℕ) (m : Message) (place : ℕ) → ns ≡ message_numbers m → (place ≡ 0) × (get_or (message_numbers m) 0 0 < 2) → FirstWrongEntry ns place
 not_event ns m place e (f, l) =

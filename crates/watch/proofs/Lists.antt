@@ -61,6 +61,18 @@ vacant_all ts x zero h = refl
 vacant_all ts x (suc n) h = let ih = vacant_all ts x n (λ k l. h k (omega arith)) in let e = h n (omega arith) in grind arith
 
 -- joined, by a test
+pub hangs_all : (p : Plan) (t : Positions) (up : Bool) (xs : List ℕ) →
+    ((k : ℕ) → suc k < length xs → Joined p t up (get_or xs (suc k) 0) (get_or xs k 0)) → Hangs p t up xs
+hangs_all p t up [] h = nowhere
+hangs_all p t up (x ∷ []) h = in_one x
+hangs_all p t up (x ∷ (y ∷ ys)) h = in_more x y ys (h 0 (omega arith)) (hangs_all p t up (y ∷ ys) (λ k l. h (suc k) (omega arith)))
+
+pub hangs_looked : (p : Plan) (t : Positions) (up : Bool) (xs : List ℕ) (n : ℕ) → length xs ≤ n →
+    ((k : ℕ) → k < n → 0 < k → Joined p t up (get_or xs k 0) (get_or xs (k - 1) 0)) → Hangs p t up xs
+hangs_looked p t up xs n l h =
+    hangs_all p t up xs (λ k m. let e : suc k - 1 ≡ k = omega arith in
+    subst (λ (j : ℕ). Joined p t up (get_or xs (suc k) 0) (get_or xs j 0)) e (h (suc k) (omega arith) (omega arith)))
+
 pub joined_is : (p : Plan) (t : Positions) (up : Bool) (a b : ℕ) (r : Bool) → r ≡ joined p t up a b → r ≡ true → Joined p t up a b
 unfolding Joined
 joined_is p t up a b r e f = grind arith
