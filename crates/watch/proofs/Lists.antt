@@ -60,7 +60,7 @@ unfolding occupied
 vacant_all ts x zero h = refl
 vacant_all ts x (suc n) h = let ih = vacant_all ts x n (λ k l. h k (omega arith)) in let e = h n (omega arith) in grind arith
 
--- joined, by a test
+-- sections that hang together each with the next
 pub hangs_all : (p : Plan) (t : Positions) (up : Bool) (xs : List ℕ) →
     ((k : ℕ) → suc k < length xs → Joined p t up (get_or xs (suc k) 0) (get_or xs k 0)) → Hangs p t up xs
 hangs_all p t up [] h = nowhere
@@ -73,6 +73,7 @@ hangs_looked p t up xs n l h =
     hangs_all p t up xs (λ k m. let e : suc k - 1 ≡ k = omega arith in
     subst (λ (j : ℕ). Joined p t up (get_or xs (suc k) 0) (get_or xs j 0)) e (h (suc k) (omega arith) (omega arith)))
 
+-- joined, by a test
 pub joined_is : (p : Plan) (t : Positions) (up : Bool) (a b : ℕ) (r : Bool) → r ≡ joined p t up a b → r ≡ true → Joined p t up a b
 unfolding Joined
 joined_is p t up a b r e f = grind arith
