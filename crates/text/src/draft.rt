@@ -80,6 +80,10 @@ impl Roll {
     // The first thing that has no line though a later one has.
     fn gap(&self) -> Option<Gap> {
         let missing = (0..NUMBERED).find(|x| self.line(*x).is_none())?;
+        // as many have a line as stand before it, so none behind it has
+        if missing == self.count {
+            return None;
+        }
         let line = (missing..NUMBERED).find_map(|x| self.line(x))?;
         Some(Gap { missing, line })
     }
@@ -87,9 +91,8 @@ impl Roll {
     // The first line of one that is not in the other; the largest number is no line.
     fn not_in(&self, other: &Roll) -> Option<Gap> {
         (0..NUMBERED)
-            .filter(|x| other.line(*x).is_none())
             .filter_map(|x| self.line(x).map(|line| Gap { missing: x, line }))
-            .filter(|gap| gap.line < usize::MAX)
+            .filter(|gap| gap.line < usize::MAX && other.line(gap.missing).is_none())
             .min_by_key(|gap| gap.line)
     }
 }
@@ -155,13 +158,16 @@ impl Draft {
             line: gap.line,
             kind: Kind::Missing(word, gap.missing),
         });
-        let unmarked = self.marked.not_in(&self.sections).map(|gap| Fault {
+        if let Some(fault) = gap(&self.sections, Word::Section) {
+            return Some(fault);
+        }
+        if let Some(fault) = gap(&self.points, Word::Point) {
+            return Some(fault);
+        }
+        self.marked.not_in(&self.sections).map(|gap| Fault {
             line: gap.line,
             kind: Kind::NoSection(gap.missing),
-        });
-        gap(&self.sections, Word::Section)
-            .or(gap(&self.points, Word::Point))
-            .or(unmarked)
+        })
     }
 
     // The numbers of the plan.
