@@ -276,7 +276,7 @@ impl Interlocking {
         }
     }
 
-    // What is asked is done, or not, as the rules decide: by its number, since all that is asked goes through `act`.
+    // What is asked is done, or not, as the rules decide: by its number through `act`, so that there is one way for both.
     pub fn perform(self, sight: Sight<'_>, request: Request) -> (Self, Answer)
         ensures { SaysAt sight.entry self request result.0 result.1 }
     {

@@ -258,7 +258,7 @@ comes_back ls es (Err (Place k)) l h = h.here (ls, es, l, refl)
 pub read_back : ReadBack
 read_back = record { apart = journals_apart; same = comes_back }
 
--- nor of a journal's numbers, of which an entry's are the next five
+-- and so in a journal's numbers, of which an entry's are the next five
 pub place_there : (ns : List ℕ) (at : ℕ) (few : List ℕ) → few ≡ take 5 (drop at ns) → (place : ℕ) → at < length ns → FirstWrongEntry few place → at + place ≤ length ns
 place_there ns at few f place l w =
     let a = ap length f in let b = length-take 5 (drop at ns) in let c = length-drop at ns in

@@ -55,7 +55,7 @@ within_five ns place l w = go (ltb place 5) refl
     go true q = ltb-true place 5 q
     go false q = absurd (w.here (w.before.0, same w.before.0 (ltb-false place 5 q) w.before.1))
 
--- no place past the end of the numbers is called wrong
+-- of at most five numbers, the place that is called wrong is one of theirs or the next
 pub within_length : (ns : List ℕ) (place : ℕ) → length ns ≤ 5 → FirstWrongEntry ns place → place ≤ length ns
 within_length ns place l w =
     let o = within_five ns place l w in

@@ -103,7 +103,7 @@ impl Layout {
         self.height
     }
 
-    // The column where a section ends: where the first one beyond begins, or the next one.
+    // The column where a section ends: where the first one beyond begins, or the next one; a number that is no section gets 1.
     pub fn end(&self, x: u16) -> u8 {
         self.cells.get(usize::from(x)).map_or(1, |cell| cell.end)
     }
