@@ -80,7 +80,7 @@ impl Roll {
     // The first thing that has no line though a later one has.
     fn gap(&self) -> Option<Gap> {
         let missing = (0..NUMBERED).find(|x| self.line(*x).is_none())?;
-        // as many have a line as stand before it, so none behind it has
+        // As many have a line as stand before it, so none behind it has.
         if missing == self.count {
             return None;
         }
@@ -144,7 +144,7 @@ impl Draft {
     }
 
     fn set_time<'a>(&mut self, line: usize, time: u16) -> Result<(), Kind<'a>> {
-        // (0 is no line)
+        // 0 is no line.
         if let Some(before) = self.time.filter(|known| known.line != 0) {
             return Err(Kind::Second(before.line));
         }

@@ -1,5 +1,5 @@
 // A line's tokens, taken one after the other.
-ghost use Rattle.std.specs.Prelude.{◌≡◌, ◌<◌, ◌≤◌, length, IfErr, IfSome};
+ghost use Rattle.std.specs.Prelude.{◌≡◌, ◌<◌, ◌≤◌, length, IfSome, MatchResult};
 
 use crate::fault::Expected;
 use crate::{Token, Word, token_of};
@@ -80,15 +80,15 @@ impl<'a> Cursor<'a> {
 
     // A number below a bound, after a word. What is refused is not taken, so it is looked at first.
     pub fn below(&mut self, bound: u16, after: Word) -> Result<u16, Wrong>
-        ensures { IfErr result (λ _. self.new ≡ self.old) }
+        ensures { MatchResult result (λ n. (n < bound) × (left_of self.new < left_of self.old)) (λ _. self.new ≡ self.old) }
     {
-        let Some(Token::Number(n)) = self.peek() else {
+        let Some((&Token::Number(n), rest)) = self.rest.split_first() else {
             return Err(self.wrong(Expected::Number(after)));
         };
         if n >= bound {
             return Err(self.wrong(Expected::Below(bound, after)));
         }
-        self.step();
+        self.rest = rest;
         Ok(n)
     }
 
